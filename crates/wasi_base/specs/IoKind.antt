@@ -1,0 +1,26 @@
+-- The words for kinds of fault.
+use Rattle.std.specs.Prelude.{ℕ, List, [], ◌∷◌, codes, Option, Some, None, cond}
+use Rattle.std.specs.Str.{bytes_eq}
+use Rattle.wasi_base.specs.declared.io_kind.IoKind.{IoKind}
+use Rattle.wasi_base.specs.declared.io_kind.IoKind.TheVariants.{BrokenPipe, NotFound, PermissionDenied, IsADirectory, WriteZero, Interrupted, InvalidData, Other}
+
+abbrev pub kind_name : IoKind → List ℕ
+kind_name BrokenPipe = codes "brokenpipe"
+kind_name NotFound = codes "notfound"
+kind_name PermissionDenied = codes "permissiondenied"
+kind_name IsADirectory = codes "isadirectory"
+kind_name WriteZero = codes "writezero"
+kind_name Interrupted = codes "interrupted"
+kind_name InvalidData = codes "invaliddata"
+kind_name Other = codes "other"
+
+abbrev pub kinds : List IoKind
+kinds = BrokenPipe ∷ NotFound ∷ PermissionDenied ∷ IsADirectory ∷ WriteZero ∷ Interrupted ∷ InvalidData ∷ Other ∷ []
+
+-- the first of these kinds whose name it is
+abbrev pub named_among : List IoKind → List ℕ → Option IoKind
+named_among [] name = None
+named_among (kind ∷ others) name = cond (bytes_eq name (kind_name kind)) (Some kind) (named_among others name)
+
+abbrev pub kind_named : List ℕ → Option IoKind
+kind_named name = named_among kinds name

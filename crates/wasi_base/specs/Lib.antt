@@ -1,0 +1,4 @@
+pub mod IoKind
+pub mod TrapText
+pub mod Trappable
+pub mod StreamError
