@@ -1,0 +1,3 @@
+pub mod KindFacts
+pub mod SourceFacts
+pub mod SinkFacts

@@ -1,5 +1,4 @@
 ghost use Rattle.std.specs.Prelude.{◌≡◌};
-ghost use Rattle.std.specs.Str.{str_bytes};
 ghost use Rattle.wasi_base.specs.IoKind.{kind_name, kind_named};
 
 /// The kinds of fault that a source or a sink tells, by the names of std's `io::ErrorKind`.
@@ -18,7 +17,7 @@ pub enum IoKind {
 impl IoKind {
     /// The kind's word in scripts and replies: its name in lower case, with nothing between.
     pub fn name(&self) -> &str
-        ensures { str_bytes result.now ≡ kind_name self.now }
+        ensures { result.now ≡ kind_name self.now }
     {
         match *self {
             IoKind::BrokenPipe => "brokenpipe",
@@ -36,16 +35,22 @@ impl IoKind {
     pub fn of_name(name: &[u8]) -> Option<IoKind>
         ensures { result ≡ kind_named name.now }
     {
-        match name {
-            b"brokenpipe" => Some(IoKind::BrokenPipe),
-            b"notfound" => Some(IoKind::NotFound),
-            b"permissiondenied" => Some(IoKind::PermissionDenied),
-            b"isadirectory" => Some(IoKind::IsADirectory),
-            b"writezero" => Some(IoKind::WriteZero),
-            b"interrupted" => Some(IoKind::Interrupted),
-            b"invaliddata" => Some(IoKind::InvalidData),
-            b"other" => Some(IoKind::Other),
-            _ => None,
+        for kind in KINDS {
+            if name == kind.name().as_bytes() {
+                return Some(kind);
+            }
         }
+        None
     }
 }
+
+const KINDS: [IoKind; 8] = [
+    IoKind::BrokenPipe,
+    IoKind::NotFound,
+    IoKind::PermissionDenied,
+    IoKind::IsADirectory,
+    IoKind::WriteZero,
+    IoKind::Interrupted,
+    IoKind::InvalidData,
+    IoKind::Other,
+];
