@@ -1,0 +1,38 @@
+ghost use Rattle.std.specs.Prelude.{◌≡◌, None};
+
+use std::marker::Model;
+
+/// What a polled read or a pollable waits for: a delivery after so many, or nothing.
+#[derive(Drop)]
+pub struct Wait {
+    since: Option<u64>,
+}
+
+impl Model for Wait {
+    ghost use Rattle.std.specs.Prelude.{ℕ, Option};
+
+    ghost Value = { Option ℕ };
+
+    ghost view = { λ wait. wait.since };
+}
+
+impl Wait {
+    /// Waits for nothing.
+    pub fn new() -> Wait
+        ensures { result ≡ None }
+    {
+        Wait { since: None }
+    }
+
+    pub(crate) fn since(&self) -> Option<u64>
+        ensures { result ≡ self.now }
+    {
+        self.since
+    }
+
+    pub(crate) fn set(&mut self, since: Option<u64>)
+        ensures { self.new ≡ since }
+    {
+        self.since = since;
+    }
+}
