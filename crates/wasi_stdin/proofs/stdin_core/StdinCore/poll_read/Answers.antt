@@ -1,4 +1,4 @@
-use Rattle.std.proofs.Common.{◌∙◌, ap, sym}
+use Rattle.std.proofs.Common.{ap, sym}
 use Rattle.wasi_stdin.proofs.SharedFacts.{rest_kept, count_of}
 use Rattle.wasi_stdin.proofs.stdin_core.StdinCore.poll_read.Goals as goal
 
