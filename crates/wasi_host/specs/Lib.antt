@@ -1,0 +1,10 @@
+pub mod Reply
+pub mod Host
+pub mod Run
+pub mod Transcript
+pub mod Laws
+pub mod Steps
+pub mod Shown
+pub mod Rules
+pub mod Lines
+pub mod Headline

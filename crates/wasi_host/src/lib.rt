@@ -1,0 +1,15 @@
+//! What a session of guests is: its replies and their texts, the host that makes them, and the
+//! run of a script on the shared input.
+#![tactic(auto)]
+
+mod entry;
+mod laws;
+mod piece;
+mod reply;
+mod text;
+
+pub use entry::Entry;
+pub use laws::{a_run_of_the_host, lines_fix_replies};
+pub use piece::Piece;
+pub use reply::Reply;
+pub use text::push_line;

@@ -1,0 +1,79 @@
+ghost use Rattle.std.specs.Prelude.{◌≡◌, OnOk, ◌∷◌, [], ◌++◌, ◌*◌, codes, length, replicate};
+ghost use Rattle.std.specs.Fmt.{decimal};
+ghost use Rattle.hex.specs.Hex.{encode_lower};
+ghost use Rattle.wasi_base.specs.IoKind.{kind_name};
+ghost use Rattle.wasi_base.specs.TrapText.{trap_text};
+ghost use Rattle.wasi_host.specs.Reply.{hex_of, text_of, reply_line};
+
+use crate::Reply;
+use itoa::Buffer;
+use std::alloc::Global;
+use wasi_base::{OutOfMemory, TrapText};
+
+fn push_number(text: &mut Vec<u8>, word: &[u8], number: u64) -> Result<(), OutOfMemory>
+    ensures { OnOk result (text.new.items ≡ text.old.items ++ (word.now ++ decimal number)) }
+{
+    let mut buffer = Buffer::new();
+    text.extend_from_slice(word)?;
+    text.extend_from_slice(buffer.format(number).as_bytes())?;
+    Ok(())
+}
+
+fn push_words(text: &mut Vec<u8>, word: &[u8], more: &[u8]) -> Result<(), OutOfMemory>
+    ensures { OnOk result (text.new.items ≡ text.old.items ++ (word.now ++ more.now)) }
+{
+    text.extend_from_slice(word)?;
+    text.extend_from_slice(more)?;
+    Ok(())
+}
+
+fn push_hex(alloc: Global, text: &mut Vec<u8>, word: &[u8], bytes: &[u8]) -> Result<(), OutOfMemory>
+    ensures { OnOk result (text.new.items ≡ text.old.items ++ (word.now ++ hex_of bytes.now)) }
+{
+    text.extend_from_slice(word)?;
+    if bytes.is_empty() {
+        text.extend_from_slice(b"-")?;
+    } else {
+        let digits = hex::encode(alloc, bytes)?;
+        text.extend_from_slice(digits.as_bytes())?;
+    }
+    Ok(())
+}
+
+fn push_trap(alloc: Global, text: &mut Vec<u8>, trap: TrapText) -> Result<(), OutOfMemory>
+    ensures { OnOk result (text.new.items ≡ text.old.items ++ (codes "trap " ++ trap_text trap)) }
+{
+    let why = trap.to_string(alloc)?;
+    push_words(text, b"trap ", why.as_bytes())
+}
+
+fn push_text(alloc: Global, text: &mut Vec<u8>, reply: &Reply) -> Result<(), OutOfMemory>
+    ensures { OnOk result (text.new.items ≡ text.old.items ++ text_of reply.now) }
+{
+    match reply {
+        Reply::Ok => push_words(text, b"ok", b""),
+        Reply::Handle(number) => push_number(text, b"handle ", u64::from(*number)),
+        Reply::Bytes(piece) => push_hex(alloc, text, b"bytes ", piece.as_slice()),
+        Reply::Count(count) => push_number(text, b"count ", *count),
+        Reply::Pending => push_words(text, b"pending", b""),
+        Reply::Captured(size) => push_number(text, b"captured ", *size as u64),
+        Reply::Idle => push_words(text, b"idle", b""),
+        Reply::Gave(count) => push_number(text, b"gave ", *count as u64),
+        Reply::End => push_words(text, b"end", b""),
+        Reply::Fault(kind) => push_words(text, b"fault ", kind.name().as_bytes()),
+        Reply::Closed => push_words(text, b"closed", b""),
+        Reply::Failed(kind) => push_words(text, b"failed ", kind.name().as_bytes()),
+        Reply::Trap(trap) => push_trap(alloc, text, *trap),
+        Reply::Exit(status) => push_number(text, b"exit ", u64::from(*status)),
+        Reply::Ended => push_words(text, b"ended", b""),
+    }
+}
+
+/// Appends a reply on a line of its own. Want of memory may leave a part of it.
+pub fn push_line(alloc: Global, text: &mut Vec<u8>, reply: &Reply) -> Result<(), OutOfMemory>
+    ensures { OnOk result (text.new.items ≡ text.old.items ++ reply_line reply.now) }
+{
+    push_text(alloc, text, reply)?;
+    text.extend_from_slice(b"\n")?;
+    Ok(())
+}

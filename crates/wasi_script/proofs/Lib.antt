@@ -1,0 +1,3 @@
+pub mod Cuts
+pub mod NumberFacts
+pub mod ScriptFacts

@@ -1,0 +1,44 @@
+ghost use Rattle.std.specs.Prelude.{◌≡◌, true};
+ghost use Rattle.wasi_script.specs.Grammar.{may_stand, names_after, no_names};
+
+use crate::lines::Line;
+
+/// Which guests are declared.
+#[derive(Drop)]
+pub struct Guests {
+    declared: [bool; 64],
+}
+
+impl Guests {
+    ghost use Rattle.wasi_script.specs.Guests.{names_in};
+
+    pub fn none() -> Self
+        ensures { names_in result ≡ no_names }
+    {
+        Guests {
+            declared: [false; 64],
+        }
+    }
+
+    /// Whether a line may stand after the declarations so far.
+    pub fn allow(&self, line: Line) -> bool
+        ensures { result ≡ may_stand (names_in self.now) line }
+    {
+        match line {
+            Line::Guest { guest, input: _ } => guest < 64 && !self.declared[guest as usize],
+            Line::Call { guest, call: _ } => guest < 64 && self.declared[guest as usize],
+            Line::Capture | Line::Deliver => true,
+        }
+    }
+
+    /// Takes down what a line declares.
+    pub fn declare(&mut self, line: Line)
+        requires { may_stand (names_in self.old) line ≡ true }
+        ensures { names_in self.new ≡ names_after (names_in self.old) line }
+    {
+        match line {
+            Line::Guest { guest, input: _ } => self.declared[guest as usize] = true,
+            Line::Call { guest: _, call: _ } | Line::Capture | Line::Deliver => {}
+        }
+    }
+}

@@ -1,0 +1,102 @@
+ghost use Rattle.std.specs.Prelude.{◌≡◌, ◌≤◌, ◌<◌, ◌↔◌, [], Some, length, slice_get, IsTrue, IfOk, IfErr};
+ghost use Rattle.wasi_script.specs.Guests.{names_in};
+ghost use Rattle.wasi_script.specs.Grammar.{parsed, Steps, Bad, reading_after, AllStand, no_names};
+ghost use Rattle.wasi_script.specs.Refused.{OnBadLine};
+
+use crate::forms::{Reading, read_line};
+use crate::guests::Guests;
+use crate::lines::Line;
+use crate::parts::Parts;
+use std::alloc::Global;
+use std::marker::Model;
+use thiserror::Error;
+
+/// The steps of a valid script, in order.
+#[derive(Drop)]
+pub struct Script {
+    steps: Vec<Line>,
+}
+
+impl Model for Script {
+    ghost use Rattle.std.specs.Prelude.{List};
+    ghost use Rattle.wasi_script.specs.declared.lines.Line.{Line};
+
+    ghost Value = { List Line };
+
+    ghost view = { λ script. script.steps.items };
+}
+
+impl Script {
+    /// How many steps there are. Comments and empty lines make none.
+    pub fn len(&self) -> u64
+        ensures { result ≡ length self.now }
+    {
+        self.steps.len() as u64
+    }
+
+    pub fn is_empty(&self) -> bool
+        ensures { IsTrue result ↔ (self.now ≡ []) }
+    {
+        self.steps.is_empty()
+    }
+
+    /// The step at a place, counted from 0.
+    pub fn line(&self, at: u64) -> &Line
+        requires { at < length self.now }
+        ensures { slice_get self.now at ≡ Some result.now }
+    {
+        &self.steps[at as usize]
+    }
+
+    pub fn steps(&self) -> &[Line]
+        ensures { result.now ≡ self.now }
+    {
+        self.steps.as_slice()
+    }
+}
+
+/// Why a script gives no steps.
+#[derive(Clone, Copy, Debug, PartialEq, Eq, Drop, Error)]
+pub enum ScriptError {
+    /// The first line that is not valid, counted from 1 over all lines.
+    #[error("bad script: line {0}")]
+    BadLine(u64),
+    #[error("out of memory")]
+    OutOfMemory,
+}
+
+/// The steps of a script of at most 16777216 bytes, or its first line that is not valid.
+pub fn parse_script(alloc: Global, bytes: &[u8]) -> Result<Script, ScriptError>
+    requires { length bytes.now ≤ 16777216 }
+    ensures ok { IfOk result (λ script. parsed bytes.now ≡ Steps script) }
+    ensures stand { IfOk result (λ script. AllStand no_names script) }
+    ensures bad { IfErr result (λ error. OnBadLine error (λ number. parsed bytes.now ≡ Bad number)) }
+{
+    let mut steps = Vec::new(alloc);
+    let mut guests = Guests::none();
+    let mut number = 0;
+    for text in Parts::new(bytes, b'\n') {
+        number += 1;
+        match read_after(&guests, text) {
+            Reading::Note => {}
+            Reading::Step(line) => {
+                guests.declare(line);
+                if steps.push(line).is_err() {
+                    return Err(ScriptError::OutOfMemory);
+                }
+            }
+            Reading::Invalid => return Err(ScriptError::BadLine(number)),
+        }
+    }
+    Ok(Script { steps })
+}
+
+// What a line is after the declarations so far.
+fn read_after(guests: &Guests, text: &[u8]) -> Reading
+    ensures { result ≡ reading_after (names_in guests.now) text.now }
+{
+    match read_line(text) {
+        Reading::Step(line) if !guests.allow(line) => Reading::Invalid,
+        reading => reading,
+    }
+}
