@@ -1,7 +1,5 @@
-ghost use Rattle.std.specs.Prelude.{◌≡◌, OnOk, ◌∷◌, [], ◌++◌, ◌*◌, codes, length, replicate};
+ghost use Rattle.std.specs.Prelude.{◌≡◌, OnOk, OnErr, ◌++◌, codes, length, take};
 ghost use Rattle.std.specs.Fmt.{decimal};
-ghost use Rattle.hex.specs.Hex.{encode_lower};
-ghost use Rattle.wasi_base.specs.IoKind.{kind_name};
 ghost use Rattle.wasi_base.specs.TrapText.{trap_text};
 ghost use Rattle.wasi_host.specs.Reply.{hex_of, text_of, reply_line};
 
@@ -11,7 +9,8 @@ use std::alloc::Global;
 use wasi_base::{OutOfMemory, TrapText};
 
 fn push_number(text: &mut Vec<u8>, word: &[u8], number: u64) -> Result<(), OutOfMemory>
-    ensures { OnOk result (text.new.items ≡ text.old.items ++ (word.now ++ decimal number)) }
+    ensures ok { OnOk result (text.new.items ≡ text.old.items ++ (word.now ++ decimal number)) }
+    ensures err { OnErr result (take (length text.old.items) text.new.items ≡ text.old.items) }
 {
     let mut buffer = Buffer::new();
     text.extend_from_slice(word)?;
@@ -20,7 +19,8 @@ fn push_number(text: &mut Vec<u8>, word: &[u8], number: u64) -> Result<(), OutOf
 }
 
 fn push_words(text: &mut Vec<u8>, word: &[u8], more: &[u8]) -> Result<(), OutOfMemory>
-    ensures { OnOk result (text.new.items ≡ text.old.items ++ (word.now ++ more.now)) }
+    ensures ok { OnOk result (text.new.items ≡ text.old.items ++ (word.now ++ more.now)) }
+    ensures err { OnErr result (take (length text.old.items) text.new.items ≡ text.old.items) }
 {
     text.extend_from_slice(word)?;
     text.extend_from_slice(more)?;
@@ -28,7 +28,8 @@ fn push_words(text: &mut Vec<u8>, word: &[u8], more: &[u8]) -> Result<(), OutOfM
 }
 
 fn push_hex(alloc: Global, text: &mut Vec<u8>, word: &[u8], bytes: &[u8]) -> Result<(), OutOfMemory>
-    ensures { OnOk result (text.new.items ≡ text.old.items ++ (word.now ++ hex_of bytes.now)) }
+    ensures ok { OnOk result (text.new.items ≡ text.old.items ++ (word.now ++ hex_of bytes.now)) }
+    ensures err { OnErr result (take (length text.old.items) text.new.items ≡ text.old.items) }
 {
     text.extend_from_slice(word)?;
     if bytes.is_empty() {
@@ -41,14 +42,16 @@ fn push_hex(alloc: Global, text: &mut Vec<u8>, word: &[u8], bytes: &[u8]) -> Res
 }
 
 fn push_trap(alloc: Global, text: &mut Vec<u8>, trap: TrapText) -> Result<(), OutOfMemory>
-    ensures { OnOk result (text.new.items ≡ text.old.items ++ (codes "trap " ++ trap_text trap)) }
+    ensures ok { OnOk result (text.new.items ≡ text.old.items ++ (codes "trap " ++ trap_text trap)) }
+    ensures err { OnErr result (take (length text.old.items) text.new.items ≡ text.old.items) }
 {
     let why = trap.to_string(alloc)?;
     push_words(text, b"trap ", why.as_bytes())
 }
 
 fn push_text(alloc: Global, text: &mut Vec<u8>, reply: &Reply) -> Result<(), OutOfMemory>
-    ensures { OnOk result (text.new.items ≡ text.old.items ++ text_of reply.now) }
+    ensures ok { OnOk result (text.new.items ≡ text.old.items ++ text_of reply.now) }
+    ensures err { OnErr result (take (length text.old.items) text.new.items ≡ text.old.items) }
 {
     match reply {
         Reply::Ok => push_words(text, b"ok", b""),
@@ -69,9 +72,25 @@ fn push_text(alloc: Global, text: &mut Vec<u8>, reply: &Reply) -> Result<(), Out
     }
 }
 
-/// Appends a reply on a line of its own. Want of memory may leave a part of it.
+/// Appends a reply on a line of its own. Want of memory leaves the text as it was.
 pub fn push_line(alloc: Global, text: &mut Vec<u8>, reply: &Reply) -> Result<(), OutOfMemory>
-    ensures { OnOk result (text.new.items ≡ text.old.items ++ reply_line reply.now) }
+    ensures ok { OnOk result (text.new.items ≡ text.old.items ++ reply_line reply.now) }
+    ensures err { OnErr result (text.new.items ≡ text.old.items) }
+{
+    let before = text.len();
+    match push_text_line(alloc, text, reply) {
+        Ok(()) => Ok(()),
+        Err(error) => {
+            text.truncate(before);
+            Err(error)
+        }
+    }
+}
+
+// want of memory may leave a part of the line
+fn push_text_line(alloc: Global, text: &mut Vec<u8>, reply: &Reply) -> Result<(), OutOfMemory>
+    ensures ok { OnOk result (text.new.items ≡ text.old.items ++ reply_line reply.now) }
+    ensures err { OnErr result (take (length text.old.items) text.new.items ≡ text.old.items) }
 {
     push_text(alloc, text, reply)?;
     text.extend_from_slice(b"\n")?;

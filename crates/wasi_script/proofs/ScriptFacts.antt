@@ -1,10 +1,10 @@
 -- The steps of a script, line by line.
-use Rattle.std.proofs.Common.{◌≡◌, ℕ, ◌+◌, Bool, true, false, List, [], ◌∷◌, ◌++◌, refl, ap, ◌∙◌, sym, append_assoc, cond, subst}
+use Rattle.std.proofs.Common.{◌≡◌, ℕ, Bool, true, false, List, [], ◌∷◌, ◌++◌, refl, ap, ◌∙◌, cond, subst}
 use Rattle.wasi_script.specs.Standing.{steps_stand}
 use Rattle.wasi_script.specs.declared.lines.Line.{Line}
 use Rattle.wasi_script.specs.declared.forms.Reading.{Reading}
 use Rattle.wasi_script.specs.declared.forms.Reading.TheVariants.{Note, Step, Invalid}
-use Rattle.wasi_script.specs.Grammar.{Names, Parsed, Steps, Bad, parsed_from, parsed_line, with_step, reading_after, standing, may_stand, names_after, parsed, AllStand, no_names, steps_of}
+use Rattle.wasi_script.specs.Grammar.{Names, Parsed, Steps, Bad, parsed_from, if_standing, may_stand, parsed, AllStand, no_names, steps_of}
 
 -- steps that were read, and then what the lines that are left stand for
 abbrev pub after_steps : List Line → Parsed → Parsed
@@ -31,7 +31,7 @@ pub read_steps_stand : (bytes : List ℕ) (steps : List Line) (names : Names) (n
 read_steps_stand bytes steps names number lines is none = subst (λ (steps : List Line). AllStand no_names steps) (ap steps_of (read_all (parsed bytes) steps names number lines is none)) (steps_stand bytes)
 
 -- a step that was read may stand
-pub read_step_stands : (names : Names) (reading : Reading) (step : Line) → standing names reading ≡ Step step → may_stand names step ≡ true
+pub read_step_stands : (names : Names) (reading : Reading) (step : Line) → if_standing names reading ≡ Step step → may_stand names step ≡ true
 read_step_stands names Note step is = absurd (cc)
 read_step_stands names (Step read) step is = by_test (may_stand names read) refl is
   where

@@ -1,5 +1,5 @@
 -- Which scripts are valid, and the steps that they stand for.
-use Rattle.std.specs.Prelude.{◌≡◌, ℕ, ◌+◌, Bool, true, false, cond, not, ◌&&◌, nat_eq, nat_lt, List, [], ◌∷◌, ◌++◌, Option, Some, None, codes}
+use Rattle.std.specs.Prelude.{◌≡◌, ℕ, ◌+◌, Bool, true, false, cond, not, ◌&&◌, nat_eq, nat_lt, List, [], ◌∷◌, Option, Some, None, codes}
 use Rattle.std.specs.List.{slice_split}
 use Rattle.std.specs.Option.{option_and_then, option_map}
 use Rattle.std.specs.Str.{bytes_eq}
@@ -20,14 +20,14 @@ abbrev pub Form : Type 0 → Type 0
 Form A = List ℕ × (List (List ℕ) → Option A)
 
 -- what words stand for, by the form that their first word names
-abbrev pub formed : {A : Type 0} → List (Form A) → List (List ℕ) → Option A
-formed [] words = None
-formed (form ∷ forms) [] = None
-formed (form ∷ forms) (word ∷ fields) = cond (bytes_eq word form.0) (form.1 fields) (formed forms (word ∷ fields))
+abbrev pub meaning_by : {A : Type 0} → List (Form A) → List (List ℕ) → Option A
+meaning_by [] words = None
+meaning_by (form ∷ forms) [] = None
+meaning_by (form ∷ forms) (word ∷ fields) = cond (bytes_eq word form.0) (form.1 fields) (meaning_by forms (word ∷ fields))
 
 -- no fields
-abbrev pub alone : {A : Type 0} → A → List (List ℕ) → Option A
-alone it fields = cond (is_at_end fields) (Some it) None
+abbrev pub without_fields : {A : Type 0} → A → List (List ℕ) → Option A
+without_fields it fields = cond (is_at_end fields) (Some it) None
 
 -- one field, which stands for something
 abbrev pub with_field : {A B : Type 0} → (List ℕ → Option A) → (A → B) → List (List ℕ) → Option B
@@ -50,9 +50,9 @@ exit_of word = cond (bytes_eq word (codes "ok")) (Some exit.Ok) (cond (bytes_eq 
 
 -- the calls
 abbrev pub call_of : List (List ℕ) → Option Call
-call_of = formed (
-    (codes "get-stdin", alone call.GetStdin)
-    ∷ (codes "async-stdin", alone call.AsyncStdin)
+call_of = meaning_by (
+    (codes "get-stdin", without_fields call.GetStdin)
+    ∷ (codes "async-stdin", without_fields call.AsyncStdin)
     ∷ (codes "read", with_numbers call.Read)
     ∷ (codes "skip", with_numbers call.Skip)
     ∷ (codes "poll-read", with_numbers call.PollRead)
@@ -62,11 +62,11 @@ call_of = formed (
 
 -- the steps
 abbrev pub line_of : List (List ℕ) → Option Line
-line_of = formed (
+line_of = meaning_by (
     (codes "guest", with_guest (λ fields. option_and_then input_of (only_field fields)) line.Guest)
     ∷ (codes "call", with_guest call_of line.Call)
-    ∷ (codes "capture", alone line.Capture)
-    ∷ (codes "deliver", alone line.Deliver)
+    ∷ (codes "capture", without_fields line.Capture)
+    ∷ (codes "deliver", without_fields line.Deliver)
     ∷ [])
 
 abbrev pub step_or_invalid : Option Line → Reading
@@ -99,13 +99,13 @@ names_after names line.Capture = names
 names_after names line.Deliver = names
 
 -- what a line is after lines that declared these names
-abbrev pub standing : Names → Reading → Reading
-standing names Note = Note
-standing names (Step step) = cond (may_stand names step) (Step step) Invalid
-standing names Invalid = Invalid
+abbrev pub if_standing : Names → Reading → Reading
+if_standing names Note = Note
+if_standing names (Step step) = cond (may_stand names step) (Step step) Invalid
+if_standing names Invalid = Invalid
 
 abbrev pub reading_after : Names → List ℕ → Reading
-reading_after names text = standing names (reading_of text)
+reading_after names text = if_standing names (reading_of text)
 
 -- The lines of a script: what stands between its bytes 0x0A. After the last of these, nothing is an empty line.
 abbrev pub lines_of : List ℕ → List (List ℕ)

@@ -4,13 +4,13 @@ use Rattle.std.proofs.Common.{refl}
 use Rattle.wasi_script.specs.declared.lines.Line.{Line}
 use Rattle.wasi_script.specs.declared.forms.Reading.{Reading}
 use Rattle.wasi_script.specs.declared.forms.Reading.TheVariants.{Note, Step, Invalid}
-use Rattle.wasi_script.specs.Grammar.{Names, Parsed, Steps, Bad, parsed_from, parsed_line, with_step, names_after, reading_of, standing, AllStand, may_stand, steps_of, parsed, lines_of, no_names}
+use Rattle.wasi_script.specs.Grammar.{Names, Parsed, Steps, Bad, parsed_from, parsed_line, with_step, names_after, reading_of, if_standing, AllStand, may_stand, steps_of, parsed, lines_of, no_names}
 
 after_step : (names : Names) (step : Line) (rest : Parsed) → may_stand names step ≡ true → AllStand (names_after names step) (steps_of rest) → AllStand names (steps_of (with_step step rest))
 after_step names step (Steps steps) is others = (is, others)
 after_step names step (Bad number) is others = tt
 
-after_line : (reading : Reading) (names : Names) (number : ℕ) (rest : Names → ℕ → Parsed) → ((names : Names) (number : ℕ) → AllStand names (steps_of (rest names number))) → AllStand names (steps_of (parsed_line (standing names reading) names number rest))
+after_line : (reading : Reading) (names : Names) (number : ℕ) (rest : Names → ℕ → Parsed) → ((names : Names) (number : ℕ) → AllStand names (steps_of (rest names number))) → AllStand names (steps_of (parsed_line (if_standing names reading) names number rest))
 after_line Note names number rest others = others names (number + 1)
 after_line (Step step) names number rest others = by_test (may_stand names step) refl
   where

@@ -74,7 +74,7 @@ pub fn parse_script(alloc: Global, bytes: &[u8]) -> Result<Script, ScriptError>
 {
     let mut steps = Vec::new(alloc);
     let mut guests = Guests::none();
-    let mut number = 0;
+    let mut number: u64 = 0;
     for text in Parts::new(bytes, b'\n') {
         number += 1;
         match read_after(&guests, text) {

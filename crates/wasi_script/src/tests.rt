@@ -8,6 +8,15 @@ fn parsed(rt: &impl Abort, alloc: Global, text: &str) -> Result<Script, ScriptEr
     parse_script(alloc, text.as_bytes())
 }
 
+// The first bad line of a script, if it has one.
+fn bad_line(rt: &impl Abort, alloc: Global, text: &str) -> Result<Option<u64>, ScriptError> {
+    match parsed(rt, alloc, text) {
+        Ok(_) => Ok(None),
+        Err(ScriptError::BadLine(number)) => Ok(Some(number)),
+        Err(ScriptError::OutOfMemory) => Err(ScriptError::OutOfMemory),
+    }
+}
+
 #[test]
 fn each_form_is_a_step(rt: HostRuntime) -> Result<(), Fail> {
     let text =
@@ -98,17 +107,9 @@ fn a_bad_line_is_told_by_its_number(rt: HostRuntime) -> Result<(), Fail> {
     ];
     for line in bad_lines {
         let text = format!(in rt.alloc(); "{line}\ncapture\n")?;
-        assert_eq!(rt;
-            parsed(&rt, rt.alloc(), &text).err(),
-            Some(ScriptError::BadLine(1)),
-            "{line}"
-        );
+        assert_eq!(rt; bad_line(&rt, rt.alloc(), &text)?, Some(1), "{line}");
         let text = format!(in rt.alloc(); "# note\n\n{line}")?;
-        assert_eq!(rt;
-            parsed(&rt, rt.alloc(), &text).err(),
-            Some(ScriptError::BadLine(3)),
-            "{line}"
-        );
+        assert_eq!(rt; bad_line(&rt, rt.alloc(), &text)?, Some(3), "{line}");
     }
     Ok(())
 }
@@ -133,11 +134,7 @@ fn a_bad_call_is_told_by_its_number(rt: HostRuntime) -> Result<(), Fail> {
     ];
     for line in bad_lines {
         let text = format!(in rt.alloc(); "guest 0 shared\n# note\n\n{line}\n")?;
-        assert_eq!(rt;
-            parsed(&rt, rt.alloc(), &text).err(),
-            Some(ScriptError::BadLine(4)),
-            "{line}"
-        );
+        assert_eq!(rt; bad_line(&rt, rt.alloc(), &text)?, Some(4), "{line}");
     }
     Ok(())
 }

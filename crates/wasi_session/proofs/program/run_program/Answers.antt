@@ -1,0 +1,18 @@
+use Rattle.std.proofs.Common.{arith, ap, length, length-append}
+use Rattle.wasi_session.proofs.program.run_program.Goals as goal
+
+pub returns-in-Err-TooLong-clause-too_long : goal.returns-in-Err-TooLong-clause-too_long
+returns-in-Err-TooLong-clause-too_long g c = λ four. (λ s e. rw c.in-Err-TooLong.field-0-is at (c.in-Err-TooLong.ensures.script s e), c.tell-in-Err-TooLong.ensures.tells)
+
+pub returns-in-Err-TooLong-clause-complete : goal.returns-in-Err-TooLong-clause-complete
+returns-in-Err-TooLong-clause-complete g c = λ s e words good short reads writes.
+    let past = rw c.in-Err-TooLong.field-0-is at (c.in-Err-TooLong.ensures.script s e) in
+    absurd (omega (arith, ap length past.taken.all, length-append past.bytes past.taken.at.left, past.past, short))
+
+pub returns-in-Err-BadScript-clause-bad : goal.returns-in-Err-BadScript-clause-bad
+returns-in-Err-BadScript-clause-bad g c = λ five. (c.in-Err-BadScript.number, λ s e. rw c.in-Err-BadScript.field-0-is at (c.in-Err-BadScript.ensures.script s e), c.tell_bad_script.ensures)
+
+pub returns-in-Err-BadScript-clause-complete : goal.returns-in-Err-BadScript-clause-complete
+returns-in-Err-BadScript-clause-complete g c = λ s e words good short reads writes.
+    let bad = rw c.in-Err-BadScript.field-0-is at (c.in-Err-BadScript.ensures.script s e) in
+    absurd (rw bad.1 at good)

@@ -1,0 +1,36 @@
+use Rattle.std.proofs.Common.{◌≡◌, ◌∙◌, ap, sym, refl, subst, List, Some, length, take}
+use Rattle.wasi_base.specs.Source.{Told}
+use Rattle.wasi_base.specs.Sink.{with_more}
+use Rattle.wasi_script.specs.declared.lines.Line.{Line}
+use Rattle.wasi_script.specs.Grammar.{AllStand, no_names, parsed, Parsed, Steps, steps_of, IsGood, lines_of}
+use Rattle.wasi_script.specs.Standing.{stand_from}
+use Rattle.wasi_host.specs.Transcript.{IsDone, transcript, told_after_run}
+use Rattle.wasi_host.specs.Headline.{headline}
+use Rattle.wasi_session.proofs.run.run_bytes.Goals as goal
+
+pub run_steps-requires : goal.run_steps-requires
+run_steps-requires g c =
+    let same : steps_of (parsed c.args.bytes.now) ≡ c.steps.result.now = ap steps_of c.in-Ok.ensures.ok ∙ sym c.steps.ensures in
+    subst (λ steps. AllStand no_names steps) same (stand_from no_names 1 (lines_of c.args.bytes.now))
+
+pub returns-in-Ok-write_all-clause-done : goal.returns-in-Ok-write_all-clause-done
+returns-in-Ok-write_all-clause-done g c = λ t e.
+    let same : steps_of (parsed c.args.bytes.now) ≡ c.steps.result.now = ap steps_of c.in-Ok.ensures.ok ∙ sym c.steps.ensures in
+    let good : IsGood (parsed c.args.bytes.now) = rw c.in-Ok.ensures.ok tt in
+    record {
+      good = good;
+      out = c.in-Ok-write_all.ensures.ok ∙ ap (with_more (g.K.Sink.taken c.args.out.now)) (c.deref.ensures.value ∙ c.in-Ok-run_steps.ensures.text t e ∙ ap (λ steps. transcript steps t) (sym same));
+      stdin = c.in-Ok-run_steps.ensures.told t e ∙ ap (λ steps. Some (told_after_run steps t)) (sym same);
+      headline = headline (steps_of (parsed c.args.bytes.now)) t (stand_from no_names 1 (lines_of c.args.bytes.now));
+    }
+
+pub returns-in-Ok-run_steps-clause-cut_off : goal.returns-in-Ok-run_steps-clause-cut_off
+returns-in-Ok-run_steps-clause-cut_off g c = λ t e.
+    let same : steps_of (parsed c.args.bytes.now) ≡ c.steps.result.now = ap steps_of c.in-Ok.ensures.ok ∙ sym c.steps.ensures in
+    let text : c.deref.result.now ≡ transcript (steps_of (parsed c.args.bytes.now)) t = c.deref.ensures.value ∙ c.in-Ok-run_steps.ensures.text t e ∙ ap (λ steps. transcript steps t) (sym same) in
+    record {
+      count = c.in-Err-write_all.field-0.taken;
+      part = rw text at c.in-Err-write_all.ensures.err.0;
+      out = rw text at c.in-Err-write_all.ensures.err.1;
+      stdin = c.in-Ok-run_steps.ensures.told t e ∙ ap (λ steps. Some (told_after_run steps t)) (sym same);
+    }

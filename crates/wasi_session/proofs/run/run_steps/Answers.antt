@@ -1,0 +1,43 @@
+use Rattle.std.proofs.Common.{◌≡◌, ◌≤◌, ◌<◌, ◌+◌, ◌++◌, ◌∷◌, ◌∙◌, drop, length, get_or, Some, List, subst, sym, ap, refl, arith}
+use Rattle.std.proofs.lemmas.Grind.{common_steps}
+use Rattle.wasi_base.specs.Source.{Told}
+use Rattle.wasi_stdin.specs.Shared.{given_now}
+use Rattle.wasi_script.specs.declared.lines.Line.{Line}
+use Rattle.wasi_script.specs.declared.lines.Line.TheVariants.{Guest}
+use Rattle.wasi_script.specs.declared.lines.Input.TheVariants.{Shared}
+use Rattle.wasi_script.specs.Grammar.{Names, AllStand, names_after}
+use Rattle.wasi_host.specs.Host.{Host, names_of, new_host, host_after, reply_to}
+use Rattle.wasi_host.specs.Transcript.{transcript, told_after_run}
+use Rattle.wasi_host.specs.Steps.{SoFar, go_on, stand_on, at_end, names_new, names_step, places_step, count_step}
+use Rattle.wasi_session.proofs.run.run_steps.Goals as goal
+
+pub loop-line-init : goal.loop-line-init
+loop-line-init g c = record {
+  stand = rw (c.in_ok-session.ensures, names_new) c.requires;
+  places = rw c.in_ok-session.ensures refl;
+  count = rw c.in_ok-session.ensures (omega arith);
+  told = λ t e. record { u = t; now_is = e; text_is = rw (c.new-text.ensures.items, c.in_ok-session.ensures) refl; last_is = rw c.in_ok-session.ensures refl };
+  later = omega arith;
+}
+
+pub loop-line-preserved : goal.loop-line-preserved
+loop-line-preserved g c =
+    let old = c.loop-line.session.host in
+    let new = c.step.new.self.host in
+    let given = given_now new.shared in
+    let steps = c.args.steps.now in
+    let i = c.loop-line.line-index in
+    let is = c.in_ok-step.ensures.step in
+    record {
+      stand = stand_on old new given steps i (Guest 0 Shared) c.loop-line-test.true c.loop-line.invariant.places c.loop-line.invariant.stand is.host_is;
+      places = rw is.host_is (places_step (get_or steps i (Guest 0 Shared)) old given ∙ c.loop-line.invariant.places);
+      count = rw is.host_is (omega (arith, count_step (get_or steps i (Guest 0 Shared)) old given));
+      told = λ t e. go_on _ _ old new c.loop-line.text.items c.step.new.reply.items steps i (Guest 0 Shared) _ _ _ c.loop-line-test.true (c.loop-line.invariant.told t e) is c.in_ok-step.ensures.text;
+      later = omega (arith, c.in_ok-step.ensures.later, c.loop-line.invariant.later);
+    }
+
+pub returns-clause-text : goal.returns-clause-text
+returns-clause-text g c = λ t e. c.in_ok-outputs.ensures ∙ (at_end _ _ c.loop-line.text.items c.args.steps.now c.loop-line.line-index _ _ (omega arith) (c.loop-line.invariant.told t e)).0
+
+pub returns-clause-told : goal.returns-clause-told
+returns-clause-told g c = λ t e. (at_end _ _ c.loop-line.text.items c.args.steps.now c.loop-line.line-index _ _ (omega arith) (c.loop-line.invariant.told t e)).1

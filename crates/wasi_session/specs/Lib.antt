@@ -1,0 +1,3 @@
+pub mod Sitting
+pub mod Reading
+pub mod Program

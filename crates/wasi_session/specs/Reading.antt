@@ -1,0 +1,86 @@
+-- What a session's answer says of the script that it read.
+use Rattle.std.specs.Prelude.{◌≡◌, ℕ, ◌≤◌, ◌<◌, List, ◌++◌, length, take, Option, Some, Result, Ok, Err}
+use Rattle.wasi_base.specs.Source.{Told}
+use Rattle.wasi_base.specs.Sink.{with_more}
+use Rattle.wasi_script.specs.Grammar.{parsed, Bad, IsGood, steps_of}
+use Rattle.wasi_host.specs.Transcript.{transcript, told_after_run}
+use Rattle.wasi_session.specs.declared.read.ReadError.{ReadError}
+use Rattle.wasi_session.specs.declared.read.ReadError.TheVariants.{Fault}
+use Rattle.wasi_session.specs.declared.read.ReadError.TheVariants as reading
+use Rattle.wasi_session.specs.declared.run.SessionError.{SessionError}
+use Rattle.wasi_session.specs.declared.run.SessionError.TheVariants.{ReadFault, TooLong, BadScript, WriteFault, OutOfMemory}
+
+-- these bytes were taken of what a source had left at first
+pub record HasTaken (first : Told) (now : Option Told) (bytes : List ℕ) : Type 0 where
+  pub at : Told
+  pub now_is : now ≡ Some at
+  pub all : bytes ++ at.left ≡ first.left
+
+-- a source that was read to its end, within the limit
+pub record IsReadWhole (first : Told) (now : Option Told) : Type 0 where
+  pub taken : HasTaken first now first.left
+  pub short : length first.left ≤ 16777216
+
+-- a source of which one byte more than the limit was taken
+pub record IsReadPast (first : Told) (now : Option Told) : Type 0 where
+  pub bytes : List ℕ
+  pub taken : HasTaken first now bytes
+  pub past : length bytes ≡ 16777217
+
+-- a source of which no more than the limit was taken
+pub record IsReadInPart (first : Told) (now : Option Told) : Type 0 where
+  pub bytes : List ℕ
+  pub taken : HasTaken first now bytes
+  pub within : length bytes ≤ 16777216
+
+-- which answer comes of which script
+abbrev pub ScriptRead : Result (Unit {0}) SessionError → Told → Option Told → Type 0
+ScriptRead (Ok _) script now = IsReadWhole script now × IsGood (parsed script.left)
+ScriptRead (Err ReadFault) script now = IsReadInPart script now
+ScriptRead (Err TooLong) script now = IsReadPast script now
+ScriptRead (Err (BadScript n)) script now = IsReadWhole script now × (parsed script.left ≡ Bad n)
+ScriptRead (Err WriteFault) script now = IsReadWhole script now × IsGood (parsed script.left)
+ScriptRead (Err OutOfMemory) script now = Unit {0}
+
+-- the answers before the first step
+abbrev pub OnUnstarted : SessionError → Type 0 → Type 0
+OnUnstarted ReadFault P = P
+OnUnstarted TooLong P = P
+OnUnstarted (BadScript n) P = P
+OnUnstarted WriteFault P = Unit {0}
+OnUnstarted OutOfMemory P = Unit {0}
+
+abbrev pub OnReadFault : SessionError → Type 0 → Type 0
+OnReadFault ReadFault P = P
+OnReadFault _ P = Unit {0}
+
+abbrev pub OnWriteFault : SessionError → Type 0 → Type 0
+OnWriteFault WriteFault P = P
+OnWriteFault _ P = Unit {0}
+
+-- the same of the reading alone
+abbrev pub ErrorRead : ReadError → Told → Option Told → Type 0
+ErrorRead Fault script now = IsReadInPart script now
+ErrorRead reading.TooLong script now = IsReadPast script now
+ErrorRead reading.OutOfMemory script now = Unit {0}
+
+abbrev pub OnFault : ReadError → Type 0 → Type 0
+OnFault Fault P = P
+OnFault reading.TooLong P = Unit {0}
+OnFault reading.OutOfMemory P = Unit {0}
+
+-- the same of a script that was read
+abbrev pub BytesTell : Result (Unit {0}) SessionError → List ℕ → Type 0
+BytesTell (Ok _) bytes = IsGood (parsed bytes)
+BytesTell (Err ReadFault) bytes = ⊥
+BytesTell (Err TooLong) bytes = ⊥
+BytesTell (Err (BadScript n)) bytes = parsed bytes ≡ Bad n
+BytesTell (Err WriteFault) bytes = IsGood (parsed bytes)
+BytesTell (Err OutOfMemory) bytes = Unit {0}
+
+-- a session whose output failed: a part of the transcript was taken, and the input is left as the run left it
+pub record IsCutOff (script : List ℕ) (input : Told) (taken_before taken_after : Option (List ℕ)) (told_after : Option Told) : Type 0 where
+  pub count : ℕ
+  pub part : count < length (transcript (steps_of (parsed script)) input)
+  pub out : taken_after ≡ with_more taken_before (take count (transcript (steps_of (parsed script)) input))
+  pub stdin : told_after ≡ Some (told_after_run (steps_of (parsed script)) input)

@@ -1,0 +1,14 @@
+//! Sessions of guests: the host step by step, a whole script, and all that the program does.
+#![tactic(auto)]
+
+mod guest;
+mod program;
+mod read;
+mod room;
+mod run;
+mod session;
+mod world;
+
+pub use program::run_program;
+pub use run::{SessionError, run_session};
+pub use session::Session;

@@ -1,0 +1,114 @@
+ghost use Rattle.std.specs.Prelude.{◌≡◌, ◌≢◌, ◌≤◌, ◌<◌, ◌⊎◌, ℕ, Some, string_bytes, true, false, length, take};
+ghost use Rattle.std.specs.Str.{bytes_eq};
+ghost use Rattle.wasi_base.specs.Causes.{Rose};
+ghost use Rattle.wasi_base.specs.Source.{Told};
+ghost use Rattle.wasi_base.specs.Sink.{with_more};
+ghost use Rattle.wasi_script.specs.Grammar.{parsed, Bad, IsGood};
+ghost use Rattle.wasi_host.specs.Transcript.{IsDone};
+ghost use Rattle.wasi_session.specs.Reading.{IsReadWhole, IsReadPast, IsCutOff};
+ghost use Rattle.wasi_session.specs.Program.{is_run_words, words_of, Tells, usage_line, read_fault_line, too_long_line, write_fault_line, out_of_memory_line, bad_script_line};
+
+use crate::run::{SessionError, run_session};
+use itoa::Buffer;
+use std::alloc::Global;
+use wasi_base::{Sink, Source, write_all};
+
+/// All that the program does with its words, the script, the guests' input, its output and the
+/// sink for a line on a refusal. Answers the exit status: 0 at the good end; 2 for words of no
+/// form, and then nothing is read; 3 where the script's source failed; 4 for a script of more than
+/// 16777216 bytes; 5 for a script with a line that is not valid; 6 where the output failed; 7
+/// where memory ran out.
+pub fn run_program<S: Source, I: Source, K: Sink, E: Sink>(
+    alloc: Global,
+    words: &[String],
+    script: &mut S,
+    stdin: &mut I,
+    out: &mut K,
+    err: &mut E,
+) -> u8
+    ensures statuses { (result ≡ 0) ⊎ ((2 ≤ result) × (result ≤ 7)) }
+    ensures done { (s : Told) (t : Told) → S.told script.old ≡ Some s → I.told stdin.old ≡ Some t → result ≡ 0 → IsDone s.left t (K.taken out.old) (K.taken out.new) (I.told stdin.new) × IsReadWhole s (S.told script.new) }
+    ensures quiet { result ≡ 0 → err.new ≡ err.old }
+
+    ensures words { is_run_words (words_of words.now) ≡ true → result ≢ 2 }
+    ensures usage { is_run_words (words_of words.now) ≡ false → (result ≡ 2) × (script.new ≡ script.old) × Tells usage_line (E.taken err.old) (E.taken err.new) (E.faults err.old) (E.faults err.new) }
+    ensures read { result ≡ 3 → Rose (S.faults script.old) (S.faults script.new) × Tells read_fault_line (E.taken err.old) (E.taken err.new) (E.faults err.old) (E.faults err.new) }
+    ensures too_long { result ≡ 4 → ((s : Told) → S.told script.old ≡ Some s → IsReadPast s (S.told script.new)) × Tells too_long_line (E.taken err.old) (E.taken err.new) (E.faults err.old) (E.faults err.new) }
+    ensures bad { result ≡ 5 → (n : ℕ) × ((s : Told) → S.told script.old ≡ Some s → IsReadWhole s (S.told script.new) × (parsed s.left ≡ Bad n)) × Tells (bad_script_line n) (E.taken err.old) (E.taken err.new) (E.faults err.old) (E.faults err.new) }
+    ensures write { result ≡ 6 → Rose (K.faults out.old) (K.faults out.new) × Tells write_fault_line (E.taken err.old) (E.taken err.new) (E.faults err.old) (E.faults err.new) }
+    ensures cut_off { (s : Told) (t : Told) → S.told script.old ≡ Some s → I.told stdin.old ≡ Some t → result ≡ 6 → IsCutOff s.left t (K.taken out.old) (K.taken out.new) (I.told stdin.new) }
+    ensures memory { result ≡ 7 → Tells out_of_memory_line (E.taken err.old) (E.taken err.new) (E.faults err.old) (E.faults err.new) }
+
+    // before the first step nothing is written and the input is unread
+    ensures unstarted { 2 ≤ result → result ≤ 5 → (out.new ≡ out.old) × (stdin.new ≡ stdin.old) }
+
+    // a valid script whose source and whose output do not fail
+    ensures complete { (s : Told) → S.told script.old ≡ Some s → is_run_words (words_of words.now) ≡ true → IsGood (parsed s.left) → length s.left ≤ 16777216 → (Rose (S.faults script.old) (S.faults script.new) → ⊥) → (Rose (K.faults out.old) (K.faults out.new) → ⊥) → (result ≡ 0) ⊎ (result ≡ 7) }
+{
+    if !is_run(words) {
+        tell(
+            err,
+            b"usage: wasi_run run FILE | wasi_run gen NUMBER LINES\n",
+        );
+        return 2;
+    }
+    match run_session(alloc, script, stdin, out) {
+        Ok(()) => 0,
+        Err(SessionError::ReadFault) => {
+            tell(err, b"read fault\n");
+            3
+        }
+        Err(SessionError::TooLong) => {
+            tell(err, b"script too long\n");
+            4
+        }
+        Err(SessionError::BadScript(number)) => {
+            tell_bad_script(err, number);
+            5
+        }
+        Err(SessionError::WriteFault) => {
+            tell(err, b"write fault\n");
+            6
+        }
+        Err(SessionError::OutOfMemory) => {
+            tell(err, b"out of memory\n");
+            7
+        }
+    }
+}
+
+// true where the sink took the whole line; a fault of it changes nothing else
+fn tell<E: Sink>(err: &mut E, line: &[u8]) -> bool
+    ensures tells { Tells line.now (E.taken err.old) (E.taken err.new) (E.faults err.old) (E.faults err.new) }
+    ensures whole { result ≡ true → E.taken err.new ≡ with_more (E.taken err.old) line.now }
+    ensures part { result ≡ false → (n : ℕ) × (n < length line.now) × (E.taken err.new ≡ with_more (E.taken err.old) (take n line.now)) × Rose (E.faults err.old) (E.faults err.new) }
+    ensures later { E.faults err.old ≤ E.faults err.new }
+{
+    write_all(err, line).is_ok()
+}
+
+fn tell_bad_script<E: Sink>(err: &mut E, number: u64)
+    ensures { Tells (bad_script_line number) (E.taken err.old) (E.taken err.new) (E.faults err.old) (E.faults err.new) }
+{
+    let mut buffer = Buffer::new();
+    let digits = buffer.format(number).as_bytes();
+    if !tell(err, b"bad script: line ") {
+        return;
+    }
+    if !tell(err, digits) {
+        return;
+    }
+    tell(err, b"\n");
+}
+
+fn is_run(words: &[String]) -> bool
+    ensures { result ≡ is_run_words (words_of words.now) }
+{
+    words.len() == 2 && is_word(&words[0], b"run")
+}
+
+fn is_word(text: &String, word: &[u8]) -> bool
+    ensures { result ≡ bytes_eq (string_bytes text.now) word.now }
+{
+    text.as_bytes() == word
+}

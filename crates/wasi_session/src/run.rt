@@ -1,0 +1,98 @@
+ghost use Rattle.std.specs.Prelude.{◌≡◌, ◌≤◌, ◌<◌, IfOk, IfErr, OnOk, Some, length, take};
+ghost use Rattle.wasi_base.specs.Causes.{Rose};
+ghost use Rattle.wasi_base.specs.Source.{Told};
+ghost use Rattle.wasi_script.specs.Grammar.{AllStand, no_names, parsed, Bad, IsGood, steps_of};
+ghost use Rattle.wasi_host.specs.Transcript.{transcript, told_after_run, IsDone};
+ghost use Rattle.wasi_session.specs.Reading.{ScriptRead, BytesTell, OnUnstarted, OnReadFault, OnWriteFault, IsCutOff};
+
+use crate::read::{ReadError, read_script};
+use crate::session::Session;
+use std::alloc::Global;
+use wasi_base::{OutOfMemory, Sink, Source, write_all};
+use wasi_script::{Line, ScriptError, parse_script};
+
+/// Why a session did not come to its good end.
+#[derive(Clone, Copy, Debug, PartialEq, Eq, Drop)]
+pub enum SessionError {
+    /// The script's source failed.
+    ReadFault,
+    /// The script has more than 16777216 bytes.
+    TooLong,
+    /// The first line that is not valid, counted from 1.
+    BadScript(u64),
+    /// The output failed.
+    WriteFault,
+    OutOfMemory,
+}
+
+// runs all steps, and gives the text of their replies
+fn run_steps<I: Source>(
+    alloc: Global,
+    steps: &[Line],
+    stdin: &mut I,
+) -> Result<Vec<u8>, OutOfMemory>
+    requires { AllStand no_names steps.now }
+    ensures text { (t : Told) → I.told stdin.old ≡ Some t → IfOk result (λ text. text.items ≡ transcript steps.now t) }
+    ensures told { (t : Told) → I.told stdin.old ≡ Some t → OnOk result (I.told stdin.new ≡ Some (told_after_run steps.now t)) }
+    ensures later { I.faults stdin.old ≤ I.faults stdin.new }
+{
+    let mut session = Session::new(alloc)?;
+    let mut text = Vec::new(alloc);
+    for line in steps {
+        session.step(line, stdin, &mut text)?;
+    }
+    session.outputs(&mut text)?;
+    Ok(text)
+}
+
+/// A whole session: reads the script, runs its steps on the guests' input, and writes the
+/// transcript. The whole script is read and checked before the first step, so until then nothing
+/// is written and the input is unread.
+pub fn run_session<S: Source, I: Source, K: Sink>(
+    alloc: Global,
+    script: &mut S,
+    stdin: &mut I,
+    out: &mut K,
+) -> Result<(), SessionError>
+    ensures done { (s : Told) (t : Told) → S.told script.old ≡ Some s → I.told stdin.old ≡ Some t → OnOk result (IsDone s.left t (K.taken out.old) (K.taken out.new) (I.told stdin.new)) }
+    ensures script { (s : Told) → S.told script.old ≡ Some s → ScriptRead result s (S.told script.new) }
+    ensures read { IfErr result (λ e. OnReadFault e (Rose (S.faults script.old) (S.faults script.new))) }
+    ensures write { IfErr result (λ e. OnWriteFault e (Rose (K.faults out.old) (K.faults out.new))) }
+    ensures cut_off { (s : Told) (t : Told) → S.told script.old ≡ Some s → I.told stdin.old ≡ Some t → IfErr result (λ e. OnWriteFault e (IsCutOff s.left t (K.taken out.old) (K.taken out.new) (I.told stdin.new))) }
+    ensures unstarted { IfErr result (λ e. OnUnstarted e ((out.new ≡ out.old) × (stdin.new ≡ stdin.old))) }
+    ensures later { S.faults script.old ≤ S.faults script.new }
+{
+    match read_script(alloc, script) {
+        Ok(bytes) => run_bytes(alloc, &bytes, stdin, out),
+        Err(ReadError::Fault) => Err(SessionError::ReadFault),
+        Err(ReadError::TooLong) => Err(SessionError::TooLong),
+        Err(ReadError::OutOfMemory) => Err(SessionError::OutOfMemory),
+    }
+}
+
+// a session over a script that was read
+fn run_bytes<I: Source, K: Sink>(
+    alloc: Global,
+    bytes: &[u8],
+    stdin: &mut I,
+    out: &mut K,
+) -> Result<(), SessionError>
+    requires { length bytes.now ≤ 16777216 }
+    ensures done { (t : Told) → I.told stdin.old ≡ Some t → OnOk result (IsDone bytes.now t (K.taken out.old) (K.taken out.new) (I.told stdin.new)) }
+    ensures script { BytesTell result bytes.now }
+    ensures write { IfErr result (λ e. OnWriteFault e (Rose (K.faults out.old) (K.faults out.new))) }
+    ensures cut_off { (t : Told) → I.told stdin.old ≡ Some t → IfErr result (λ e. OnWriteFault e (IsCutOff bytes.now t (K.taken out.old) (K.taken out.new) (I.told stdin.new))) }
+    ensures unstarted { IfErr result (λ e. OnUnstarted e ((out.new ≡ out.old) × (stdin.new ≡ stdin.old))) }
+{
+    match parse_script(alloc, bytes) {
+        Ok(parsed) => match run_steps(alloc, parsed.steps(), stdin) {
+            Ok(text) => match write_all(out, &text) {
+                Ok(()) => Ok(()),
+                Err(_) => Err(SessionError::WriteFault),
+            },
+            Err(_) => Err(SessionError::OutOfMemory),
+        },
+        Err(ScriptError::BadLine(number)) => Err(SessionError::BadScript(number)),
+        Err(ScriptError::OutOfMemory) => Err(SessionError::OutOfMemory),
+    }
+}

@@ -1,0 +1,90 @@
+ghost use Rattle.std.specs.Prelude.{true, false, ◌≡◌, ◌^◌, ◌-◌, ◌<◌, ◌≤◌, ◌++◌, IfOk, OnOk, OnErr, IsErr};
+ghost use Rattle.wasi_base.specs.Causes.{Rose};
+ghost use Rattle.wasi_stdin.specs.Shared.{given_now};
+ghost use Rattle.wasi_host.specs.Reply.{reply_line, OnFault};
+ghost use Rattle.wasi_host.specs.Host.{new_host, IsStep, Fits, reply_to};
+ghost use Rattle.wasi_session.specs.Sitting.{Stopped};
+
+use crate::world::World;
+use std::alloc::Global;
+use std::marker::Model;
+use wasi_base::{OutOfMemory, Source};
+use wasi_host::push_line;
+use wasi_script::Line;
+
+/// A session of guests, step by step.
+#[derive(Drop)]
+pub struct Session {
+    world: World,
+    refused: bool,
+    alloc: Global,
+}
+
+impl Model for Session {
+    ghost use Rattle.wasi_session.specs.Sitting.{Sitting};
+
+    ghost Value = { Sitting };
+
+    ghost view = { λ s. record { host = s.world; refused = s.refused } };
+}
+
+impl Session {
+    /// A session with no guests, whose input nobody asked for.
+    pub fn new(alloc: Global) -> Result<Session, OutOfMemory>
+        ensures { IfOk result (λ s. s ≡ record { host = new_host; refused = false }) }
+    {
+        let world = World::new(alloc)?;
+        Ok(Session {
+            world,
+            refused: false,
+            alloc,
+        })
+    }
+
+    /// One step: appends its reply, on a line. The step has to fit what the session holds. A step
+    /// that finds no memory appends nothing, and every step after it answers the same and changes
+    /// nothing.
+    pub fn step<I: Source>(
+        &mut self,
+        line: &Line,
+        stdin: &mut I,
+        reply: &mut Vec<u8>,
+    ) -> Result<(), OutOfMemory>
+        requires fits { Fits line.now self.old.host }
+        requires count { self.old.host.shared.deliveries < 2 ^ 64 - 1 }
+        ensures text { OnOk result (reply.new.items ≡ reply.old.items ++ reply_line (reply_to line.now self.old.host (given_now self.new.host.shared))) }
+        ensures step { OnOk result (IsStep (I.told stdin.old) (I.told stdin.new) self.old.host self.new.host line.now (reply_to line.now self.old.host (given_now self.new.host.shared))) }
+        ensures later { I.faults stdin.old ≤ I.faults stdin.new }
+        ensures fault { OnOk result (OnFault (reply_to line.now self.old.host (given_now self.new.host.shared)) (Rose (I.faults stdin.old) (I.faults stdin.new))) }
+        ensures ready { OnOk result ((self.old.refused ≡ false) × (self.new.refused ≡ false)) }
+        ensures refused { OnErr result (self.new.refused ≡ true) }
+        ensures same { OnErr result (reply.new.items ≡ reply.old.items) }
+        ensures stopped { OnErr result (Stopped (I.told stdin.old) (I.told stdin.new) self.old.host self.new.host line.now) }
+        ensures after { self.old.refused ≡ true → IsErr result × (self.new ≡ self.old) × (stdin.new ≡ stdin.old) }
+    {
+        if self.refused {
+            return Err(OutOfMemory);
+        }
+        let alloc = self.alloc;
+        match self.world.answer(alloc, line, stdin) {
+            Ok(answer) => match push_line(alloc, reply, &answer) {
+                Ok(()) => Ok(()),
+                Err(_) => {
+                    self.refused = true;
+                    Err(OutOfMemory)
+                }
+            },
+            Err(_) => {
+                self.refused = true;
+                Err(OutOfMemory)
+            }
+        }
+    }
+
+    /// Appends a line for each declared output: none, since no output can be declared yet.
+    pub fn outputs(&self, _text: &mut Vec<u8>) -> Result<(), OutOfMemory>
+        ensures { OnOk result (_text.new.items ≡ _text.old.items) }
+    {
+        Ok(())
+    }
+}
