@@ -7,6 +7,8 @@ mod read;
 mod room;
 mod run;
 mod session;
+#[cfg(test)]
+mod tests;
 mod world;
 
 pub use program::run_program;

@@ -1,0 +1,331 @@
+ghost use Rattle.std.specs.Prelude.{None};
+
+use crate::{run_program, run_session};
+use std::alloc::Global;
+use std::process::Abort;
+use std::test::Fail;
+use wasi_base::{CleanSource, IoKind, MemSink, MemSource, Plan, SinkPlan, Source};
+
+const SAMPLE: &[u8] =
+    b"guest 0 shared\nguest 1 shared\ncall 0 get-stdin\ncall 1 get-stdin\ncall 0 read 0 2\ncapture\ndeliver\ncall 1 read 0 1\ncall 0 read 0 5\n";
+
+// a script on an input with its plan: the transcript, and what is left of the input
+fn plays(
+    rt: &impl Abort,
+    alloc: Global,
+    script: &[u8],
+    input: &[u8],
+    plan: Vec<Plan>,
+    transcript: &[u8],
+    left: &[u8],
+) -> Result<(), Fail> {
+    let mut script = CleanSource::new(Vec::from_slice(alloc, script)?);
+    let mut stdin = MemSource::new(Vec::from_slice(alloc, input)?, plan);
+    let mut out = MemSink::new(alloc, 1024, Vec::new(alloc))?;
+    let answer = run_session(alloc, &mut script, &mut stdin, &mut out);
+    assert!(rt; answer.is_ok());
+    assert_eq!(rt; out.taken(), transcript);
+    assert_eq!(rt; stdin.left(), left);
+    Ok(())
+}
+
+#[test]
+fn guests_share_one_input(rt: HostRuntime) -> Result<(), Fail> {
+    let none = Vec::new(rt.alloc());
+    plays(
+        &rt,
+        rt.alloc(),
+        SAMPLE,
+        b"abcdef",
+        none,
+        b"ok\nok\nhandle 0\nhandle 0\nbytes -\ncaptured 2\ngave 2\nbytes 61\nbytes 62\n",
+        b"cdef",
+    )?;
+    let none = Vec::new(rt.alloc());
+    plays(&rt, rt.alloc(), b"# note\n\n", b"ab", none, b"", b"ab")?;
+    let none = Vec::new(rt.alloc());
+    plays(
+        &rt,
+        rt.alloc(),
+        b"guest 0 shared\nguest 1 shared\ncall 0 get-stdin\ncall 1 get-stdin\ncall 0 read 0 2\ncapture\ncall 0 exit ok\ndeliver\ncall 1 read 0 1\ncall 0 read 0 1\ncall 1 read 0 9\n",
+        b"xy",
+        none,
+        b"ok\nok\nhandle 0\nhandle 0\nbytes -\ncaptured 2\nexit 0\ngave 2\nbytes 78\nended\nbytes 79\n",
+        b"",
+    )?;
+    let none = Vec::new(rt.alloc());
+    plays(
+        &rt,
+        rt.alloc(),
+        b"guest 0 shared\ncall 0 read 0 1\ncall 0 get-stdin\n",
+        b"",
+        none,
+        b"ok\ntrap resource not present\nended\n",
+        b"",
+    )
+}
+
+#[test]
+fn a_fault_is_told_once(rt: HostRuntime) -> Result<(), Fail> {
+    let plan = Vec::from_array(rt.alloc(), [Plan::Take(3), Plan::Fail(IoKind::Other)])?;
+    plays(
+        &rt,
+        rt.alloc(),
+        b"guest 0 shared\ncall 0 get-stdin\ncall 0 read 0 0\ncapture\ncall 0 read 0 3\ncall 0 read 0 0\ncapture\ndeliver\ncall 0 read 0 0\ncall 0 read 0 9\ncall 0 read 0 9\ncapture\ndeliver\ncall 0 read 0 0\ncall 0 read 0 1\ncall 0 read 0 0\ncall 0 read 0 1\ncall 0 skip 0 1\n",
+        b"abc",
+        plan,
+        b"ok\nhandle 0\nbytes -\nidle\nbytes -\nbytes -\ncaptured 3\ngave 3\nbytes -\nbytes 616263\nbytes -\ncaptured 9\nfault other\nbytes -\nfailed other\nbytes -\nclosed\nclosed\n",
+        b"",
+    )?;
+    let plan = Vec::from_array(rt.alloc(), [Plan::Fail(IoKind::Other)])?;
+    plays(
+        &rt,
+        rt.alloc(),
+        b"guest 0 shared\nguest 1 shared\ncall 0 get-stdin\ncall 1 get-stdin\ncall 1 async-stdin\ncall 0 read 0 4\ncapture\ndeliver\ncall 0 read 0 4\ncall 1 read 0 4\ncall 1 poll-read 1 4\n",
+        b"",
+        plan,
+        b"ok\nok\nhandle 0\nhandle 0\nhandle 1\nbytes -\ncaptured 4\nfault other\nfailed other\nclosed\nbytes -\n",
+        b"",
+    )?;
+    let plan = Vec::from_array(rt.alloc(), [Plan::Fail(IoKind::BrokenPipe)])?;
+    plays(
+        &rt,
+        rt.alloc(),
+        b"guest 0 shared\ncall 0 get-stdin\ncall 0 read 0 4\ncapture\ndeliver\ncall 0 read 0 4\n",
+        b"",
+        plan,
+        b"ok\nhandle 0\nbytes -\ncaptured 4\nfault brokenpipe\nclosed\n",
+        b"",
+    )?;
+    let plan = Vec::from_array(rt.alloc(), [Plan::Fail(IoKind::BrokenPipe)])?;
+    plays(
+        &rt,
+        rt.alloc(),
+        b"guest 0 shared\ncall 0 async-stdin\ncall 0 poll-read 0 4\ncapture\ndeliver\ncall 0 poll-read 0 4\ncall 0 poll-read 0 4\n",
+        b"",
+        plan,
+        b"ok\nhandle 0\npending\ncaptured 4\nfault brokenpipe\nfailed brokenpipe\nbytes -\n",
+        b"",
+    )
+}
+
+#[test]
+fn polled_reads_skips_and_large_captures(rt: HostRuntime) -> Result<(), Fail> {
+    let none = Vec::new(rt.alloc());
+    plays(
+        &rt,
+        rt.alloc(),
+        b"guest 0 shared\ncall 0 async-stdin\ncall 0 poll-read 0 0\ncapture\ndeliver\ncall 0 poll-read 0 0\ncall 0 poll-read 0 5\n",
+        b"ab",
+        none,
+        b"ok\nhandle 0\npending\ncaptured 1\ngave 1\nbytes -\nbytes 61\n",
+        b"b",
+    )?;
+    let alloc = rt.alloc();
+    let script =
+        b"guest 0 shared\ncall 0 get-stdin\ncall 0 read 0 70000\ncapture\ncall 0 read 0 90000\ndeliver\ncall 0 skip 0 65536\ncall 0 read 0 1\ncapture\n";
+    let mut script = CleanSource::new(Vec::from_slice(alloc, script)?);
+    let mut stdin = CleanSource::new(vec![in alloc; 0u8; 100000]?);
+    let mut out = MemSink::new(alloc, 1024, Vec::new(alloc))?;
+    let answer = run_session(alloc, &mut script, &mut stdin, &mut out);
+    assert!(rt; answer.is_ok());
+    assert_eq!(rt;
+        out.taken(),
+        b"ok\nhandle 0\nbytes -\ncaptured 65536\nbytes -\ngave 65536\ncount 65536\nbytes -\ncaptured 1\n".as_slice()
+    );
+    assert_eq!(rt; stdin.left().len(), 34464);
+    Ok(())
+}
+
+// a source that tells nothing and counts its reads
+#[derive(Drop)]
+struct Counting {
+    reads: u64,
+}
+
+impl Source for Counting {
+    ghost told = { λ _. None };
+
+    ghost faults = { λ _. 0 };
+
+    fn read(&mut self, buf: &mut [u8]) -> Result<usize, IoKind> {
+        if buf.is_empty() {
+            return Ok(0);
+        }
+        self.reads = self.reads.saturating_add(1);
+        buf[0] = b'x';
+        Ok(1)
+    }
+}
+
+// the input's reads during a session of these steps after a guest's `get-stdin`
+fn reads_of(rt: &impl Abort, alloc: Global, steps: &[u8], reads: u64) -> Result<(), Fail> {
+    let mut script = Vec::from_slice(alloc, b"guest 0 shared\ncall 0 get-stdin\n")?;
+    script.extend_from_slice(steps)?;
+    let mut script = CleanSource::new(script);
+    let mut stdin = Counting { reads: 0 };
+    let mut out = MemSink::new(alloc, 1024, Vec::new(alloc))?;
+    let answer = run_session(alloc, &mut script, &mut stdin, &mut out);
+    assert!(rt; answer.is_ok());
+    assert_eq!(rt; stdin.reads, reads);
+    Ok(())
+}
+
+#[test]
+fn nothing_is_read_before_it_is_captured(rt: HostRuntime) -> Result<(), Fail> {
+    reads_of(
+        &rt,
+        rt.alloc(),
+        b"call 0 read 0 2\ndeliver\ncapture\ncall 0 read 0 9\n",
+        0,
+    )?;
+    reads_of(&rt, rt.alloc(), b"capture\ndeliver\n", 0)?;
+    reads_of(
+        &rt,
+        rt.alloc(),
+        b"call 0 read 0 2\ncapture\ndeliver\ndeliver\ncall 0 read 0 9\n",
+        1,
+    )
+}
+
+#[derive(Drop)]
+struct Ending {
+    status: u8,
+    out: &'static [u8],
+    err: &'static [u8],
+}
+
+// the program on these words and this script, over an output with a plan
+fn ends(
+    rt: &impl Abort,
+    alloc: Global,
+    words: &[&str],
+    script: MemSource,
+    plan: Vec<SinkPlan>,
+    ending: &Ending,
+) -> Result<(), Fail> {
+    let mut script = script;
+    let mut given = Vec::new(alloc);
+    for word in words {
+        given.push(String::from_str(alloc, word)?)?;
+    }
+    let mut stdin = CleanSource::new(Vec::from_slice(alloc, b"abcdef")?);
+    let mut out = MemSink::new(alloc, 1024, plan)?;
+    let mut err = MemSink::new(alloc, 1024, Vec::new(alloc))?;
+    let status = run_program(alloc, &given, &mut script, &mut stdin, &mut out, &mut err);
+    assert_eq!(rt; status, ending.status);
+    assert_eq!(rt; out.taken(), ending.out);
+    assert_eq!(rt; err.taken(), ending.err);
+    Ok(())
+}
+
+const USAGE: &[u8] = b"usage: wasi_run run FILE | wasi_run gen NUMBER LINES\n";
+
+#[test]
+fn refusals_have_a_status_and_a_line(rt: HostRuntime) -> Result<(), Fail> {
+    let alloc = rt.alloc();
+    let usage = Ending {
+        status: 2,
+        out: b"",
+        err: USAGE,
+    };
+    ends(
+        &rt,
+        rt.alloc(),
+        &[],
+        MemSource::new(Vec::new(alloc), Vec::new(alloc)),
+        Vec::new(alloc),
+        &usage,
+    )?;
+    ends(
+        &rt,
+        rt.alloc(),
+        &["run"],
+        MemSource::new(Vec::new(alloc), Vec::new(alloc)),
+        Vec::new(alloc),
+        &usage,
+    )?;
+    ends(
+        &rt,
+        rt.alloc(),
+        &["walk", "f"],
+        MemSource::new(Vec::new(alloc), Vec::new(alloc)),
+        Vec::new(alloc),
+        &usage,
+    )?;
+    let good = Ending {
+        status: 0,
+        out: b"",
+        err: b"",
+    };
+    ends(
+        &rt,
+        rt.alloc(),
+        &["run", "f"],
+        MemSource::new(Vec::new(alloc), Vec::new(alloc)),
+        Vec::new(alloc),
+        &good,
+    )?;
+    let failing = MemSource::new(
+        Vec::new(alloc),
+        Vec::from_array(alloc, [Plan::Fail(IoKind::Other)])?,
+    );
+    ends(
+        &rt,
+        rt.alloc(),
+        &["run", "f"],
+        failing,
+        Vec::new(alloc),
+        &Ending {
+            status: 3,
+            out: b"",
+            err: b"read fault\n",
+        },
+    )?;
+    let long = MemSource::new(vec![in alloc; b'#'; 16777217]?, Vec::new(alloc));
+    ends(
+        &rt,
+        rt.alloc(),
+        &["run", "f"],
+        long,
+        Vec::new(alloc),
+        &Ending {
+            status: 4,
+            out: b"",
+            err: b"script too long\n",
+        },
+    )?;
+    let bad = MemSource::new(
+        Vec::from_slice(alloc, b"guest 0 shared\n# note\ncall 7 get-stdin\n")?,
+        Vec::new(alloc),
+    );
+    ends(
+        &rt,
+        rt.alloc(),
+        &["run", "f"],
+        bad,
+        Vec::new(alloc),
+        &Ending {
+            status: 5,
+            out: b"",
+            err: b"bad script: line 3\n",
+        },
+    )?;
+    let two = MemSource::new(
+        Vec::from_slice(alloc, b"guest 0 shared\nguest 1 shared\n")?,
+        Vec::new(alloc),
+    );
+    let plan = Vec::from_array(alloc, [SinkPlan::Take(3), SinkPlan::Fail(IoKind::Other)])?;
+    ends(
+        &rt,
+        rt.alloc(),
+        &["run", "f"],
+        two,
+        plan,
+        &Ending {
+            status: 6,
+            out: b"ok\n",
+            err: b"write fault\n",
+        },
+    )
+}
