@@ -1,40 +1,20 @@
 -- The host's run is a run of the rules on the shared input.
-use Rattle.std.proofs.Common.{◌≡◌, ℕ, zero, suc, ◌+◌, ◌-◌, ◌<◌, ◌≤◌, min, max, Bool, true, false, cond, not, List, [], ◌∷◌, ◌++◌, length, get_or, set, take, drop, Option, Some, None, refl, ap, arith, ◌∙◌, sym, subst, append_assoc, take-append-drop, add-one}
-use Rattle.std.specs.Prelude.{is_some, nat_eq, nat_lt, slice_get, replicate}
-use Rattle.std.specs.Option.{option_map}
+use Rattle.std.proofs.Common.{◌≡◌, ℕ, zero, suc, ◌+◌, ◌-◌, ◌<◌, Bool, true, false, List, [], ◌∷◌, ◌++◌, length, get_or, set, take, drop, Option, Some, None, refl, ap, arith, ◌∙◌, sym, subst}
+use Rattle.std.specs.Prelude.{is_some, replicate}
 use Rattle.std.proofs.lemmas.Bool.Decides.{nat_tests}
 use Rattle.std.proofs.lemmas.Grind.{common_steps}
-use Rattle.std.proofs.lemmas.List.{length_push}
-use Rattle.std.proofs.Math.ListN.{length-set}
 use Rattle.std.proofs.Math.Seq.{drop-append-add, drop-append_seam}
-use Rattle.wasi_base.specs.declared.io_kind.IoKind.{IoKind}
-use Rattle.wasi_base.specs.declared.io_kind.IoKind.TheVariants.{BrokenPipe}
-use Rattle.wasi_base.specs.declared.source.Plan.{Plan}
-use Rattle.wasi_base.specs.declared.source.Plan.TheVariants.{Take, Fail}
-use Rattle.wasi_base.specs.declared.trap_text.TrapText.TheVariants.{ResourceNotPresent, ResourceWrongType, ResourceTableFull}
 use Rattle.wasi_base.specs.Source.{Told, Given, gives, told_after, given_by, told_by}
 use Rattle.wasi_base.specs.Source as given
-use Rattle.wasi_stdin.specs.declared.mode.Mode.{Mode}
-use Rattle.wasi_stdin.specs.declared.mode.Mode.TheVariants.{Idle, Asked, Held, Failed, Closed}
-use Rattle.wasi_stdin.specs.Shared as shared
-use Rattle.wasi_stdin.specs.Shared.{Shared, Reading, Skipped, Polling, Met, IsSound, HoldsIn, CapturedIn, met_in, after_in, meeting_of, after_meeting, reading, reading_of, after_read, told_fault, skipped, polling, poll_of, after_poll, wait_of, wait_after_poll, is_waiting, mode_holding, capture_at, capture_of, captured_by, after_capture, outcome_of, mode_given, held_given, delivered}
+use Rattle.wasi_stdin.specs.Shared.{IsSound}
 use Rattle.wasi_script.specs.declared.lines.Line.{Line}
 use Rattle.wasi_script.specs.declared.lines.Line.TheVariants as line
 use Rattle.wasi_script.specs.declared.lines.Call.{Call}
-use Rattle.wasi_script.specs.declared.lines.Call.TheVariants as call
 use Rattle.wasi_script.specs.Grammar.{AllStand, may_stand, no_names}
-use Rattle.wasi_host.specs.declared.entry.Entry.{Entry}
-use Rattle.wasi_host.specs.declared.entry.Entry.TheVariants as entry
-use Rattle.wasi_host.specs.declared.reply.Reply.{Reply}
-use Rattle.wasi_host.specs.declared.reply.Reply.TheVariants as reply
-use Rattle.wasi_host.specs.Reply.{ends, text_of_all}
-use Rattle.wasi_host.specs.Host.{Reach, Host, Called, no_reach, only_reply, made, read_at, skip_at, poll_at, call_rule, settled, called_by, called_in, left_reach, reach_of, names_of, new_host, reading_reply, skipped_reply, polling_reply, capture_reply, outcome_reply, delivery_reply, after_delivery, given_for, told_for, size_read, host_after, step_reply, step_host, step_told, replies, host_end, told_end}
-use Rattle.wasi_host.specs.Run.{Standing, Sharing, Rule, IsRun, at_number, at_start, with_standing, with_new, held_count, held_front, after_row, read_row, poll_row, wait_row, fault_to_read, ReadRule, SkipRule, counted, is_over, PollRow, OtherRule, IsFresh, MakeRule, has_room, ReadAt, SkipAt, PollAt, CallRule, EndedRule, size_captured, CaptureRule, delivery_row, delivery_answer, delivered_row, DeliverRule}
-use Rattle.wasi_host.specs.Run as run
-use Rattle.std.specs.Prelude.{map}
-use Rattle.wasi_host.specs.Reply.{text_of}
+use Rattle.wasi_host.specs.Host.{Reach, Host, Called, no_reach, called_in, names_of, new_host, given_for, size_read, step_reply, step_host, step_told, replies, host_end, told_end}
+use Rattle.wasi_host.specs.Run.{Sharing, Rule, IsRun, at_number, at_start, EndedRule}
 use Rattle.wasi_host.specs.Transcript.{ShowsRun, transcript, told_after_run}
-use Rattle.wasi_host.specs.Shown.{numbers_below, entries_in, ended_in, shown, get_set, declare_same}
+use Rattle.wasi_host.specs.Shown.{ended_in, shown, get_set, declare_same}
 use Rattle.wasi_host.specs.Rules.{Next, call_next, capture_next, deliver_next}
 use Rattle.wasi_host.specs.Steps.{names_step, names_new, places_step, within}
 use Rattle.wasi_host.specs.Lines.{are_lines}

@@ -1,5 +1,5 @@
 -- The host of a session: what each step replies, and what it leaves.
-use Rattle.std.specs.Prelude.{◌≡◌, ℕ, ◌+◌, Bool, true, false, cond, nat_lt, List, [], ◌∷◌, ◌++◌, length, get_or, set, slice_get, Option, Some, None, MatchOption, is_some, replicate}
+use Rattle.std.specs.Prelude.{◌≡◌, ℕ, Bool, true, false, cond, nat_lt, List, [], ◌∷◌, ◌++◌, length, get_or, set, slice_get, Option, Some, None, MatchOption, is_some, replicate}
 use Rattle.wasi_base.specs.Source.{Told, Given, Gives, gives, told_after}
 use Rattle.wasi_base.specs.Source as given
 use Rattle.wasi_base.specs.declared.trap_text.TrapText.TheVariants.{ResourceNotPresent, ResourceWrongType, ResourceTableFull}

@@ -1,10 +1,9 @@
 -- No reply holds a line's end, so the lines of a transcript are its replies.
-use Rattle.std.proofs.Common.{◌≡◌, ℕ, zero, suc, ◌+◌, ◌-◌, ◌/◌, ◌%◌, ◌<◌, ◌≤◌, Bool, true, false, cond, not, List, [], ◌∷◌, ◌++◌, length, get_or, Option, Some, None, refl, ap, arith, ◌∙◌, sym, subst, append_assoc}
+use Rattle.std.proofs.Common.{◌≡◌, ℕ, zero, suc, ◌+◌, ◌/◌, ◌%◌, Bool, true, false, cond, List, [], ◌∷◌, ◌++◌, length, get_or, refl, ap, arith, ◌∙◌, sym, append_assoc}
 use Rattle.std.specs.Prelude.{nat_eq, nat_lt, map, codes}
-use Rattle.std.specs.List.{slice_split, onto_first, list_any, flat_map}
+use Rattle.std.specs.List.{slice_split, onto_first}
 use Rattle.std.specs.Fmt.{decimal, digits, digits_onto, digit_glyph}
 use Rattle.std.proofs.lemmas.Bool.Decides.{nat_tests}
-use Rattle.std.proofs.lemmas.Grind.{common_steps}
 use Rattle.std.proofs.lemmas.List.Splits.{slice_split-cons_no}
 use Rattle.hex.specs.Hex.{encode_with, encode_lower, lower_digits}
 use Rattle.wasi_base.specs.declared.io_kind.IoKind.{IoKind}
@@ -15,7 +14,7 @@ use Rattle.wasi_base.specs.IoKind.{kind_name}
 use Rattle.wasi_base.specs.TrapText.{trap_text}
 use Rattle.wasi_host.specs.declared.reply.Reply.{Reply}
 use Rattle.wasi_host.specs.declared.reply.Reply.TheVariants as reply
-use Rattle.wasi_host.specs.Reply.{hex_of, text_of, reply_line, text_of_all}
+use Rattle.wasi_host.specs.Reply.{hex_of, text_of, text_of_all}
 use Rattle.wasi_host.specs.Transcript.{AreLines}
 
 -- bytes among which no line ends

@@ -1,12 +1,12 @@
 -- What steps come to: over a source that tells, what they declare, and how often they deliver.
-use Rattle.std.proofs.Common.{◌≡◌, ℕ, ◌+◌, ◌<◌, ◌≤◌, zero, suc, Bool, true, false, List, [], ◌∷◌, ◌++◌, length, get_or, set, take, drop, cond, Option, Some, None, refl, ap, arith, ◌∙◌, sym, subst, add-one, append-nil, append_assoc}
+use Rattle.std.proofs.Common.{◌≡◌, ℕ, ◌+◌, ◌<◌, ◌≤◌, zero, suc, Bool, true, false, List, [], ◌∷◌, ◌++◌, length, get_or, set, drop, cond, Option, Some, None, refl, ap, arith, ◌∙◌, sym, subst, add-one, append-nil, append_assoc}
 use Rattle.std.specs.Prelude.{MatchOption, is_some, nat_eq, nat_lt, slice_get, replicate}
 use Rattle.std.proofs.lemmas.Bool.Decides.{nat_tests}
 use Rattle.std.proofs.lemmas.Grind.{common_steps}
 use Rattle.std.proofs.Math.ListN.{length-set}
 use Rattle.std.proofs.Math.Seq.{drop-cons}
 use Rattle.wasi_base.specs.declared.trap_text.TrapText.TheVariants.{ResourceTableFull}
-use Rattle.wasi_base.specs.Source.{Told, Given, Gives, gives, told_after}
+use Rattle.wasi_base.specs.Source.{Told, Given, Gives}
 use Rattle.wasi_stdin.specs.declared.mode.Mode.{Mode}
 use Rattle.wasi_stdin.specs.declared.mode.Mode.TheVariants.{Idle, Asked, Held, Failed, Closed}
 use Rattle.wasi_stdin.specs.Shared.{Shared, given_now, after_read, after_in, after_meeting, is_waiting, captured_by, capture_of}
@@ -14,13 +14,13 @@ use Rattle.wasi_script.specs.declared.lines.Line.{Line}
 use Rattle.wasi_script.specs.declared.lines.Line.TheVariants as line
 use Rattle.wasi_script.specs.declared.lines.Call.{Call}
 use Rattle.wasi_script.specs.declared.lines.Call.TheVariants as call
-use Rattle.wasi_script.specs.Grammar.{Names, AllStand, may_stand, names_after, no_names}
+use Rattle.wasi_script.specs.Grammar.{AllStand, may_stand, names_after, no_names}
 use Rattle.wasi_host.specs.declared.entry.Entry.{Entry}
 use Rattle.wasi_host.specs.declared.entry.Entry.TheVariants.{Reader, Polled}
 use Rattle.wasi_host.specs.declared.reply.Reply.{Reply}
 use Rattle.wasi_host.specs.declared.reply.Reply.TheVariants as reply
 use Rattle.wasi_host.specs.Reply.{text_of_all, reply_line}
-use Rattle.wasi_host.specs.Host.{Host, IsStep, reply_to, host_after, step_reply, step_host, step_told, size_read, names_of, replies, told_end, delivery_reply, after_delivery, given_for, told_for, Reach, no_reach, called_in, called_by, call_rule, read_at, skip_at, poll_at, only_reply, reach_of, new_host, Called}
+use Rattle.wasi_host.specs.Host.{Host, IsStep, host_after, step_reply, step_host, step_told, names_of, replies, told_end, delivery_reply, after_delivery, given_for, told_for, Reach, no_reach, called_in, called_by, call_rule, read_at, skip_at, poll_at, only_reply, reach_of, new_host}
 
 -- over a source that tells, a step is a function of what it tells
 pub record IsToldStep (u : Told) (after : Option Told) (old new : Host) (step : Line) (answer : Reply) : Type 0 where

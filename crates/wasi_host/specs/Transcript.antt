@@ -7,7 +7,7 @@ use Rattle.wasi_script.specs.declared.lines.Line.{Line}
 use Rattle.wasi_script.specs.Grammar.{parsed, steps_of, IsGood}
 use Rattle.wasi_host.specs.declared.reply.Reply.{Reply}
 use Rattle.wasi_host.specs.Reply.{text_of, text_of_all}
-use Rattle.wasi_host.specs.Host.{Host, new_host, replies, told_end}
+use Rattle.wasi_host.specs.Host.{new_host, replies, told_end}
 use Rattle.wasi_host.specs.Run.{Sharing, IsRun, at_start, taken, held}
 
 -- the text of a whole run, and what is told after it

@@ -1,5 +1,5 @@
 -- What a polled read of an entry leaves.
-use Rattle.std.proofs.Common.{◌≡◌, ℕ, zero, suc, ◌<◌, List, [], ◌∷◌, length, get_or, set, Option, Some, None, Result, Ok, Err, refl, ap, arith, ◌∙◌, sym}
+use Rattle.std.proofs.Common.{◌≡◌, ℕ, zero, suc, ◌<◌, List, [], ◌∷◌, length, get_or, set, Option, Some, None, Result, Ok, Err, refl, ap, arith, sym}
 use Rattle.std.specs.Prelude.{slice_get, IfOk, OnOk}
 use Rattle.wasi_base.specs.declared.trap_text.TrapText.TheVariants.{ResourceWrongType}
 use Rattle.wasi_stdin.specs.Shared.{Shared, poll_of, after_poll, wait_after_poll}

@@ -1,5 +1,5 @@
 -- A source that tells, read to its end.
-use Rattle.std.proofs.Common.{◌≡◌, ℕ, zero, suc, ◌+◌, ◌-◌, ◌<◌, ◌≤◌, min, max, length-append, length-take, List, [], ◌∷◌, ◌++◌, length, take, drop, Option, Some, None, Ok, refl, ap, arith, ◌∙◌, sym, append_assoc, append-nil}
+use Rattle.std.proofs.Common.{◌≡◌, ℕ, zero, suc, ◌-◌, ◌<◌, ◌≤◌, min, length-append, length-take, List, [], ◌∷◌, ◌++◌, length, take, Option, Ok, refl, ap, arith, ◌∙◌, sym, append_assoc, append-nil}
 use Rattle.wasi_base.specs.declared.io_kind.IoKind.{IoKind}
 use Rattle.wasi_base.specs.declared.source.Plan.{Plan}
 use Rattle.wasi_base.specs.declared.source.Plan.TheVariants.{Take, Fail}

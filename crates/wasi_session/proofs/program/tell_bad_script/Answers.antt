@@ -1,7 +1,6 @@
-use Rattle.std.proofs.Common.{◌≡◌, ◌++◌, ◌∷◌, [], ◌∙◌, ap, sym, subst, List, ℕ, inr, inl, arith, ◌≤◌}
+use Rattle.std.proofs.Common.{◌≡◌, ◌++◌, ◌∷◌, [], ◌∙◌}
 use Rattle.std.specs.Prelude.{codes}
 use Rattle.std.specs.Fmt.{decimal}
-use Rattle.wasi_session.specs.Program.{Tells}
 use Rattle.wasi_session.proofs.TellFacts.{tells_first, tells_then}
 use Rattle.wasi_session.proofs.program.tell_bad_script.Goals as goal
 

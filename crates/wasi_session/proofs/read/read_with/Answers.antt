@@ -1,4 +1,4 @@
-use Rattle.std.proofs.Common.{◌≡◌, ◌∙◌, ap, sym, refl, arith, length, length-take, take, drop, ◌++◌, ◌<◌, ◌≤◌, Ok, Err}
+use Rattle.std.proofs.Common.{◌≡◌, ◌∙◌, arith, length, length-take, take, ◌++◌, ◌<◌, Ok}
 use Rattle.std.proofs.lemmas.Grind.{common_steps}
 use Rattle.wasi_session.proofs.ReadFacts.{read_more, read_all, read_fault, room_some, read_within}
 use Rattle.wasi_session.proofs.read.read_with.Goals as goal

@@ -1,10 +1,8 @@
-use Rattle.std.proofs.Common.{◌≡◌, ◌∙◌, ap, sym, refl, subst, List, Some, length, take}
-use Rattle.wasi_base.specs.Source.{Told}
+use Rattle.std.proofs.Common.{◌≡◌, ◌∙◌, ap, sym, subst, Some}
 use Rattle.wasi_base.specs.Sink.{with_more}
-use Rattle.wasi_script.specs.declared.lines.Line.{Line}
-use Rattle.wasi_script.specs.Grammar.{AllStand, no_names, parsed, Parsed, Steps, steps_of, IsGood, lines_of}
+use Rattle.wasi_script.specs.Grammar.{AllStand, no_names, parsed, steps_of, IsGood, lines_of}
 use Rattle.wasi_script.specs.Standing.{stand_from}
-use Rattle.wasi_host.specs.Transcript.{IsDone, transcript, told_after_run}
+use Rattle.wasi_host.specs.Transcript.{transcript, told_after_run}
 use Rattle.wasi_host.specs.Headline.{headline}
 use Rattle.wasi_session.proofs.run.run_bytes.Goals as goal
 

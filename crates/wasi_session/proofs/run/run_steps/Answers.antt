@@ -1,14 +1,8 @@
-use Rattle.std.proofs.Common.{◌≡◌, ◌≤◌, ◌<◌, ◌+◌, ◌++◌, ◌∷◌, ◌∙◌, drop, length, get_or, Some, List, subst, sym, ap, refl, arith}
-use Rattle.std.proofs.lemmas.Grind.{common_steps}
-use Rattle.wasi_base.specs.Source.{Told}
+use Rattle.std.proofs.Common.{◌∙◌, get_or, refl, arith}
 use Rattle.wasi_stdin.specs.Shared.{given_now}
-use Rattle.wasi_script.specs.declared.lines.Line.{Line}
 use Rattle.wasi_script.specs.declared.lines.Line.TheVariants.{Guest}
 use Rattle.wasi_script.specs.declared.lines.Input.TheVariants.{Shared}
-use Rattle.wasi_script.specs.Grammar.{Names, AllStand, names_after}
-use Rattle.wasi_host.specs.Host.{Host, names_of, new_host, host_after, reply_to}
-use Rattle.wasi_host.specs.Transcript.{transcript, told_after_run}
-use Rattle.wasi_host.specs.Steps.{SoFar, go_on, stand_on, at_end, names_new, names_step, places_step, count_step}
+use Rattle.wasi_host.specs.Steps.{go_on, stand_on, at_end, names_new, places_step, count_step}
 use Rattle.wasi_session.proofs.run.run_steps.Goals as goal
 
 pub loop-line-init : goal.loop-line-init

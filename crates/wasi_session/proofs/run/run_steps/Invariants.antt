@@ -1,8 +1,7 @@
-use Rattle.std.proofs.Common.{◌≡◌, ◌≤◌, ◌++◌, drop, length, Some}
+use Rattle.std.proofs.Common.{◌≡◌, ◌≤◌, drop, length, Some}
 use Rattle.wasi_base.specs.Source.{Told}
 use Rattle.wasi_script.specs.Grammar.{AllStand}
-use Rattle.wasi_host.specs.Host.{names_of, replies, told_end}
-use Rattle.wasi_host.specs.Reply.{text_of_all}
+use Rattle.wasi_host.specs.Host.{names_of}
 use Rattle.wasi_host.specs.Transcript.{transcript, told_after_run}
 use Rattle.wasi_host.specs.Steps.{SoFar}
 use Rattle.wasi_session.proofs.run.run_steps.Given as goal

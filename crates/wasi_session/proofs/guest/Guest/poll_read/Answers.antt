@@ -1,4 +1,4 @@
-use Rattle.std.proofs.Common.{arith, ◌≡◌, ◌∙◌, sym, ap}
+use Rattle.std.proofs.Common.{arith}
 use Rattle.wasi_host.specs.Host.{Reach}
 use Rattle.wasi_session.proofs.GuestFacts.{polled_reader, polled_done}
 use Rattle.wasi_session.proofs.guest.Guest.poll_read.Goals.{in-Reader, in-Polled}

@@ -1,4 +1,3 @@
-use Rattle.std.proofs.Common.{◌≡◌, ◌<◌, length, sym, ap, ◌∙◌}
 use Rattle.wasi_host.specs.Host.{Host}
 use Rattle.wasi_host.specs.Steps.{within}
 use Rattle.wasi_session.proofs.GuestFacts.{called_done}
