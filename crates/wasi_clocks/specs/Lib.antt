@@ -1,0 +1,6 @@
+pub mod Datetimes
+pub mod Deadlines
+pub mod Held
+pub mod Instants
+pub mod Waits
+pub mod WallTimes

@@ -1,0 +1,2 @@
+pub mod CycleFacts
+pub mod DrawFacts

@@ -1,0 +1,15 @@
+//! The random sources of a host: generators that can be chosen, and the context that draws from a
+//! secure one and an insecure one.
+#![tactic(auto)]
+
+mod bytes;
+mod context;
+mod deterministic;
+mod generator;
+#[cfg(test)]
+mod tests;
+
+pub use bytes::{RandomBytes, RandomRefused};
+pub use context::{DEFAULT_MAX_SIZE, WasiRandomCtx};
+pub use deterministic::Deterministic;
+pub use generator::{Generator, HostRng, thread_rng};

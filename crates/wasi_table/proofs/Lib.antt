@@ -1,0 +1,4 @@
+pub mod RowFacts
+pub mod Recounts
+pub mod TableFacts
+pub mod Steps

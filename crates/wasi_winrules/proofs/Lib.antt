@@ -1,0 +1,4 @@
+pub mod PathFacts
+pub mod ComponentFacts
+pub mod NameFacts
+pub mod UnitFacts
