@@ -5,7 +5,7 @@ ghost use Rattle.wasi_base.specs.Source.{Told};
 ghost use Rattle.wasi_base.specs.Sink.{with_more};
 ghost use Rattle.wasi_script.specs.Grammar.{parsed, Bad, IsGood};
 ghost use Rattle.wasi_host.specs.Transcript.{IsDone};
-ghost use Rattle.wasi_session.specs.Reading.{IsReadWhole, IsReadPast, IsCutOff};
+ghost use Rattle.wasi_session.specs.Reading.{IsReadWhole, IsReadPast, IsReadInPart, IsCutOff};
 ghost use Rattle.wasi_session.specs.Program.{is_run_words, words_of, Tells, usage_line, read_fault_line, too_long_line, write_fault_line, out_of_memory_line, bad_script_line};
 
 use crate::run::{SessionError, run_session};
@@ -32,10 +32,10 @@ pub fn run_program<S: Source, I: Source, K: Sink, E: Sink>(
 
     ensures words { is_run_words (words_of words.now) ≡ true → result ≢ 2 }
     ensures usage { is_run_words (words_of words.now) ≡ false → (result ≡ 2) × (script.new ≡ script.old) × Tells usage_line (E.taken err.old) (E.taken err.new) (E.faults err.old) (E.faults err.new) }
-    ensures read { result ≡ 3 → Rose (S.faults script.old) (S.faults script.new) × Tells read_fault_line (E.taken err.old) (E.taken err.new) (E.faults err.old) (E.faults err.new) }
+    ensures read { result ≡ 3 → Rose (S.faults script.old) (S.faults script.new) × ((s : Told) → S.told script.old ≡ Some s → IsReadInPart s (S.told script.new)) × Tells read_fault_line (E.taken err.old) (E.taken err.new) (E.faults err.old) (E.faults err.new) }
     ensures too_long { result ≡ 4 → ((s : Told) → S.told script.old ≡ Some s → IsReadPast s (S.told script.new)) × Tells too_long_line (E.taken err.old) (E.taken err.new) (E.faults err.old) (E.faults err.new) }
     ensures bad { result ≡ 5 → (n : ℕ) × ((s : Told) → S.told script.old ≡ Some s → IsReadWhole s (S.told script.new) × (parsed s.left ≡ Bad n)) × Tells (bad_script_line n) (E.taken err.old) (E.taken err.new) (E.faults err.old) (E.faults err.new) }
-    ensures write { result ≡ 6 → Rose (K.faults out.old) (K.faults out.new) × Tells write_fault_line (E.taken err.old) (E.taken err.new) (E.faults err.old) (E.faults err.new) }
+    ensures write { result ≡ 6 → Rose (K.faults out.old) (K.faults out.new) × ((s : Told) → S.told script.old ≡ Some s → IsReadWhole s (S.told script.new) × IsGood (parsed s.left)) × Tells write_fault_line (E.taken err.old) (E.taken err.new) (E.faults err.old) (E.faults err.new) }
     ensures cut_off { (s : Told) (t : Told) → S.told script.old ≡ Some s → I.told stdin.old ≡ Some t → result ≡ 6 → IsCutOff s.left t (K.taken out.old) (K.taken out.new) (I.told stdin.new) }
     ensures memory { result ≡ 7 → Tells out_of_memory_line (E.taken err.old) (E.taken err.new) (E.faults err.old) (E.faults err.new) }
 

@@ -16,3 +16,9 @@ pub returns-in-Err-BadScript-clause-complete : goal.returns-in-Err-BadScript-cla
 returns-in-Err-BadScript-clause-complete g c = λ s e words good short reads writes.
     let bad = rw c.in-Err-BadScript.field-0-is at (c.in-Err-BadScript.ensures.script s e) in
     absurd (rw bad.1 at good)
+
+pub returns-in-Err-ReadFault-clause-read : goal.returns-in-Err-ReadFault-clause-read
+returns-in-Err-ReadFault-clause-read g c = λ three. (rw c.in-Err-ReadFault.field-0-is at c.in-Err-ReadFault.ensures.read, λ s e. rw c.in-Err-ReadFault.field-0-is at (c.in-Err-ReadFault.ensures.script s e), c.tell-in-Err-ReadFault.ensures.tells)
+
+pub returns-in-Err-WriteFault-clause-write : goal.returns-in-Err-WriteFault-clause-write
+returns-in-Err-WriteFault-clause-write g c = λ six. (rw c.in-Err-WriteFault.field-0-is at c.in-Err-WriteFault.ensures.write, λ s e. rw c.in-Err-WriteFault.field-0-is at (c.in-Err-WriteFault.ensures.script s e), c.tell-in-Err-WriteFault.ensures.tells)

@@ -31,7 +31,7 @@ loop-line-preserved g c =
     }
 
 pub returns-clause-text : goal.returns-clause-text
-returns-clause-text g c = λ t e. c.in_ok-outputs.ensures ∙ (at_end _ _ c.loop-line.text.items c.args.steps.now c.loop-line.line-index _ _ (omega arith) (c.loop-line.invariant.told t e)).0
+returns-clause-text g c = λ t e. c.outputs.ensures ∙ (at_end _ _ c.loop-line.text.items c.args.steps.now c.loop-line.line-index _ _ (omega arith) (c.loop-line.invariant.told t e)).0
 
 pub returns-clause-told : goal.returns-clause-told
 returns-clause-told g c = λ t e. (at_end _ _ c.loop-line.text.items c.args.steps.now c.loop-line.line-index _ _ (omega arith) (c.loop-line.invariant.told t e)).1
