@@ -4,7 +4,7 @@
 use std::alloc::Global;
 use std::process::ExitCode;
 use std::{env, io};
-use wasi_base::{FileSource, StdSink, StdSource};
+use wasi_base::{FileSource, StdSink, StdSource, write_all};
 use wasi_session::run_program;
 
 fn words_of(rt: &HostRuntime) -> io::Result<Vec<String>> {
@@ -18,7 +18,11 @@ fn words_of(rt: &HostRuntime) -> io::Result<Vec<String>> {
 }
 
 fn run(rt: &HostRuntime, alloc: Global) -> io::Result<u8> {
-    let words = words_of(rt)?;
+    let words = match words_of(rt) {
+        // a word that is not UTF-8 is of no form
+        Err(error) if error.kind() == io::ErrorKind::InvalidData => Vec::new(alloc),
+        words => words?,
+    };
     let path = match words.get(1) {
         Some(file) => String::from_str(alloc, file.as_str())?,
         None => String::new(alloc),
@@ -33,6 +37,9 @@ fn run(rt: &HostRuntime, alloc: Global) -> io::Result<u8> {
 fn main(rt: HostRuntime) -> ExitCode {
     match run(&rt, rt.alloc()) {
         Ok(status) => ExitCode::from(status),
-        Err(_) => ExitCode::from(7),
+        Err(_) => {
+            let _ = write_all(&mut StdSink::new(rt.stderr()), b"out of memory\n");
+            ExitCode::from(7)
+        }
     }
 }
