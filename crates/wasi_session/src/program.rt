@@ -17,7 +17,7 @@ use wasi_base::{Sink, Source, write_all};
 /// sink for a line on a refusal. Answers the exit status: 0 at the good end; 2 for words of no
 /// form, and then nothing is read; 3 where the script's source failed; 4 for a script of more than
 /// 16777216 bytes; 5 for a script with a line that is not valid; 6 where the output failed; 7
-/// where memory ran out.
+/// where memory ran out. Each but 0 is told on `err` in a line, as far as `err` takes it.
 pub fn run_program<S: Source, I: Source, K: Sink, E: Sink>(
     alloc: Global,
     words: &[String],
@@ -37,7 +37,7 @@ pub fn run_program<S: Source, I: Source, K: Sink, E: Sink>(
     ensures bad { result ≡ 5 → (n : ℕ) × ((s : Told) → S.told script.old ≡ Some s → IsReadWhole s (S.told script.new) × (parsed s.left ≡ Bad n)) × Tells (bad_script_line n) (E.taken err.old) (E.taken err.new) (E.faults err.old) (E.faults err.new) }
     ensures write { result ≡ 6 → Rose (K.faults out.old) (K.faults out.new) × ((s : Told) → S.told script.old ≡ Some s → IsReadWhole s (S.told script.new) × IsGood (parsed s.left)) × Tells write_fault_line (E.taken err.old) (E.taken err.new) (E.faults err.old) (E.faults err.new) }
     ensures cut_off { (s : Told) (t : Told) → S.told script.old ≡ Some s → I.told stdin.old ≡ Some t → result ≡ 6 → IsCutOff s.left t (K.taken out.old) (K.taken out.new) (I.told stdin.new) }
-    ensures memory { result ≡ 7 → Tells out_of_memory_line (E.taken err.old) (E.taken err.new) (E.faults err.old) (E.faults err.new) }
+    ensures memory { result ≡ 7 → (out.new ≡ out.old) × Tells out_of_memory_line (E.taken err.old) (E.taken err.new) (E.faults err.old) (E.faults err.new) }
 
     // before the first step nothing is written and the input is unread
     ensures unstarted { 2 ≤ result → result ≤ 5 → (out.new ≡ out.old) × (stdin.new ≡ stdin.old) }

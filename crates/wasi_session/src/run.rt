@@ -1,4 +1,4 @@
-ghost use Rattle.std.specs.Prelude.{◌≡◌, ◌≤◌, ◌<◌, IfOk, IfErr, OnOk, Some, length, take};
+ghost use Rattle.std.specs.Prelude.{◌≡◌, ◌≤◌, ◌<◌, IfOk, IfErr, OnOk, Some, Err, length};
 ghost use Rattle.wasi_base.specs.Causes.{Rose};
 ghost use Rattle.wasi_base.specs.Source.{Told};
 ghost use Rattle.wasi_script.specs.Grammar.{AllStand, no_names, parsed, Bad, IsGood, steps_of};
@@ -60,6 +60,7 @@ pub fn run_session<S: Source, I: Source, K: Sink>(
     ensures write { IfErr result (λ e. OnWriteFault e (Rose (K.faults out.old) (K.faults out.new))) }
     ensures cut_off { (s : Told) (t : Told) → S.told script.old ≡ Some s → I.told stdin.old ≡ Some t → IfErr result (λ e. OnWriteFault e (IsCutOff s.left t (K.taken out.old) (K.taken out.new) (I.told stdin.new))) }
     ensures unstarted { IfErr result (λ e. OnUnstarted e ((out.new ≡ out.old) × (stdin.new ≡ stdin.old))) }
+    ensures unwritten { result ≡ Err SessionError.OutOfMemory → out.new ≡ out.old }
     ensures later { S.faults script.old ≤ S.faults script.new }
 {
     match read_script(alloc, script) {
@@ -83,6 +84,7 @@ fn run_bytes<I: Source, K: Sink>(
     ensures write { IfErr result (λ e. OnWriteFault e (Rose (K.faults out.old) (K.faults out.new))) }
     ensures cut_off { (t : Told) → I.told stdin.old ≡ Some t → IfErr result (λ e. OnWriteFault e (IsCutOff bytes.now t (K.taken out.old) (K.taken out.new) (I.told stdin.new))) }
     ensures unstarted { IfErr result (λ e. OnUnstarted e ((out.new ≡ out.old) × (stdin.new ≡ stdin.old))) }
+    ensures unwritten { result ≡ Err SessionError.OutOfMemory → out.new ≡ out.old }
 {
     match parse_script(alloc, bytes) {
         Ok(parsed) => match run_steps(alloc, parsed.steps(), stdin) {

@@ -1,8 +1,8 @@
-ghost use Rattle.std.specs.Prelude.{true, false, ◌≡◌, ◌^◌, ◌-◌, ◌<◌, ◌≤◌, ◌++◌, IfOk, OnOk, OnErr, IsErr};
+ghost use Rattle.std.specs.Prelude.{true, false, ◌≡◌, ◌^◌, ◌-◌, ◌<◌, ◌≤◌, ◌++◌, IfOk, OnOk, OnErr, IsErr, None};
 ghost use Rattle.wasi_base.specs.Causes.{Rose};
 ghost use Rattle.wasi_stdin.specs.Shared.{given_now};
 ghost use Rattle.wasi_host.specs.Reply.{reply_line, OnFault};
-ghost use Rattle.wasi_host.specs.Host.{new_host, IsStep, Fits, reply_to};
+ghost use Rattle.wasi_host.specs.Host.{new_host, IsStep, Fits, reply_to, size_read};
 ghost use Rattle.wasi_session.specs.Sitting.{Stopped};
 
 use crate::world::World;
@@ -41,8 +41,9 @@ impl Session {
         })
     }
 
-    /// One step: appends its reply, on a line. The step has to fit what the session holds. A step
-    /// that finds no memory appends nothing, and every step after it answers the same and changes
+    /// One step: appends its reply, on a line. The step has to fit what the session holds. Only a
+    /// delivery of a captured size reads the input. A step that finds no memory appends nothing,
+    /// though all else of it may be done; every step after it answers the same and changes
     /// nothing.
     pub fn step<I: Source>(
         &mut self,
@@ -54,6 +55,7 @@ impl Session {
         requires count { self.old.host.shared.deliveries < 2 ^ 64 - 1 }
         ensures text { OnOk result (reply.new.items ≡ reply.old.items ++ reply_line (reply_to line.now self.old.host (given_now self.new.host.shared))) }
         ensures step { OnOk result (IsStep (I.told stdin.old) (I.told stdin.new) self.old.host self.new.host line.now (reply_to line.now self.old.host (given_now self.new.host.shared))) }
+        ensures unread { size_read line.now self.old.host ≡ None → stdin.new ≡ stdin.old }
         ensures later { I.faults stdin.old ≤ I.faults stdin.new }
         ensures fault { OnOk result (OnFault (reply_to line.now self.old.host (given_now self.new.host.shared)) (Rose (I.faults stdin.old) (I.faults stdin.new))) }
         ensures ready { OnOk result ((self.old.refused ≡ false) × (self.new.refused ≡ false)) }

@@ -3,7 +3,7 @@ ghost use Rattle.wasi_base.specs.Causes.{Rose};
 ghost use Rattle.wasi_base.specs.Source.{Gives};
 ghost use Rattle.wasi_stdin.specs.Shared.{capture_of, after_capture, given_now};
 ghost use Rattle.wasi_host.specs.Reply.{OnFault};
-ghost use Rattle.wasi_host.specs.Host.{no_reach, new_host, reach_of, put_called, called_in, capture_reply, delivery_reply, after_delivery, outcome_reply, IsStep, Fits};
+ghost use Rattle.wasi_host.specs.Host.{no_reach, new_host, reach_of, put_called, called_in, capture_reply, delivery_reply, after_delivery, outcome_reply, IsStep, Fits, size_read};
 
 use crate::guest::Guest;
 use crate::room::room_of;
@@ -99,6 +99,7 @@ impl World {
         ensures reply { result ≡ delivery_reply self.old.shared.captured (given_now self.new.shared) }
         ensures after { self.new ≡ record self.old { shared = after_delivery self.old.shared.captured self.old.shared (given_now self.new.shared) } }
         ensures told { MatchOption self.old.shared.captured (I.told stdin.new ≡ I.told stdin.old) (λ size. Gives (I.told stdin.old) size (given_now self.new.shared) (I.told stdin.new)) }
+        ensures unread { self.old.shared.captured ≡ None → stdin.new ≡ stdin.old }
         ensures later { I.faults stdin.old ≤ I.faults stdin.new }
         ensures fault { OnFault result (Rose (I.faults stdin.old) (I.faults stdin.new)) }
     {
@@ -118,6 +119,7 @@ impl World {
         requires fits { Fits line.now self.old }
         requires count { self.old.shared.deliveries < 2 ^ 64 - 1 }
         ensures step { IfOk result (λ reply. IsStep (I.told stdin.old) (I.told stdin.new) self.old self.new line.now reply) }
+        ensures unread { size_read line.now self.old ≡ None → stdin.new ≡ stdin.old }
         ensures later { I.faults stdin.old ≤ I.faults stdin.new }
         ensures fault { IfOk result (λ reply. OnFault reply (Rose (I.faults stdin.old) (I.faults stdin.new))) }
         ensures err { OnErr result ((self.new ≡ self.old) × (stdin.new ≡ stdin.old)) }

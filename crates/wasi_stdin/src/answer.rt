@@ -17,7 +17,7 @@ pub enum Answer {
 /// What a polled read is told.
 #[derive(Clone, Copy, Debug, PartialEq, Eq, Drop)]
 pub enum PolledRead {
-    /// So many bytes were handed out; 0 at the end, and for no room.
+    /// So many bytes were handed out, as many as fit; 0 at the input's end.
     Bytes(usize),
     /// Not before the next delivery.
     Pending,
