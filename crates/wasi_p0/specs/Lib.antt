@@ -1,0 +1,4 @@
+pub mod Converted
+pub mod Poll
+pub mod Slot
+pub mod Slots

@@ -1,0 +1,12 @@
+//! Preview 0, over an object that has the calls of preview 1.
+#![tactic(auto)]
+
+mod error;
+mod poll;
+mod slot;
+mod unstable;
+
+pub use unstable::Unstable;
+
+#[cfg(test)]
+mod tests;
