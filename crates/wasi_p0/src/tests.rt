@@ -32,73 +32,165 @@ fn memory_of(alloc: Global, bytes: &[u8]) -> Result<GuestMemory, AllocError> {
     Ok(GuestMemory::new(Vec::from_slice(alloc, bytes)?))
 }
 
+type Calls<'a> = Unstable<'a, MemSnapshot1>;
+
+// what calls answer that give nothing, in a few functions: each call's contract is long
+
+fn descriptors(calls: &mut Calls<'_>, memory: &mut GuestMemory) -> [Result<(), Error>; 4] {
+    [
+        calls.fd_advise(memory, 3, 1, 2, Advice::Willneed),
+        calls.fd_allocate(memory, 3, 1, 2),
+        calls.fd_close(memory, 3),
+        calls.fd_datasync(memory, 3),
+    ]
+}
+
+fn settings(calls: &mut Calls<'_>, memory: &mut GuestMemory) -> [Result<(), Error>; 4] {
+    [
+        calls.fd_fdstat_set_flags(memory, 3, Fdflags::APPEND),
+        calls.fd_fdstat_set_rights(memory, 3, Rights::FD_READ, Rights::FD_SEEK),
+        calls.fd_filestat_set_size(memory, 3, 9),
+        calls.fd_filestat_set_times(memory, 3, 1, 2, Fstflags::ATIM),
+    ]
+}
+
+fn names(calls: &mut Calls<'_>, memory: &mut GuestMemory) -> [Result<(), Error>; 4] {
+    [
+        calls.fd_prestat_dir_name(memory, 3, 0, 9),
+        calls.fd_renumber(memory, 3, 4),
+        calls.fd_sync(memory, 3),
+        calls.args_get(memory, 0, 8),
+    ]
+}
+
+fn paths(calls: &mut Calls<'_>, memory: &mut GuestMemory) -> [Result<(), Error>; 4] {
+    let path = (0, 4);
+    let follow = Lookupflags::SYMLINK_FOLLOW;
+    [
+        calls.path_create_directory(memory, 3, path),
+        calls.path_filestat_set_times(memory, 3, follow, path, 1, 2, Fstflags::MTIM),
+        calls.path_link(memory, 3, follow, path, 4, path),
+        calls.path_remove_directory(memory, 3, path),
+    ]
+}
+
+fn more_paths(calls: &mut Calls<'_>, memory: &mut GuestMemory) -> [Result<(), Error>; 4] {
+    let path = (0, 4);
+    [
+        calls.path_rename(memory, 3, path, 4, path),
+        calls.path_symlink(memory, path, 3, path),
+        calls.path_unlink_file(memory, 3, path),
+        calls.environ_get(memory, 0, 8),
+    ]
+}
+
+fn others(calls: &mut Calls<'_>, memory: &mut GuestMemory) -> [Result<(), Error>; 4] {
+    [
+        calls.proc_raise(memory, Signal::Hup),
+        calls.sched_yield(memory),
+        calls.random_get(memory, 0, 8),
+        calls.random_get(memory, 8, 0),
+    ]
+}
+
+fn nothing_is(answers: [Result<(), Error>; 4], fits: bool) -> bool {
+    let mut all = true;
+    for answer in answers {
+        all = all
+            && match answer {
+                Ok(()) => fits,
+                Err(error) => !fits && matches!(error, Error::Normal(Errno::Nosys)),
+            };
+    }
+    all
+}
+
 #[test]
-fn calls_on_descriptors_that_answer_nothing(rt: HostRuntime) -> Result<(), Fail> {
+fn calls_that_answer_nothing(rt: HostRuntime) -> Result<(), Fail> {
     for fits in [true, false] {
         let mut replies = Vec::new(rt.alloc());
-        for _ in 0..11 {
+        for _ in 0..24 {
             replies.push(nothing_or_number(fits))?;
         }
         let mut snapshot = MemSnapshot1::new(replies);
         let mut calls = Unstable(&mut snapshot);
         let mut memory = memory_of(rt.alloc(), &[])?;
-        let answers = [
-            calls.fd_advise(&mut memory, 3, 1, 2, Advice::Willneed),
-            calls.fd_allocate(&mut memory, 3, 1, 2),
-            calls.fd_close(&mut memory, 3),
-            calls.fd_datasync(&mut memory, 3),
-            calls.fd_fdstat_set_flags(&mut memory, 3, Fdflags::APPEND),
-            calls.fd_fdstat_set_rights(&mut memory, 3, Rights::FD_READ, Rights::FD_SEEK),
-            calls.fd_filestat_set_size(&mut memory, 3, 9),
-            calls.fd_filestat_set_times(&mut memory, 3, 1, 2, Fstflags::ATIM),
-            calls.fd_prestat_dir_name(&mut memory, 3, 0, 9),
-            calls.fd_renumber(&mut memory, 3, 4),
-            calls.fd_sync(&mut memory, 3),
-        ];
-        for answer in answers {
-            match answer {
-                Ok(()) => assert!(rt; fits),
-                Err(error) => assert!(rt; !fits && matches!(error, Error::Normal(Errno::Nosys))),
-            }
-        }
+        assert!(rt; nothing_is(descriptors(&mut calls, &mut memory), fits));
+        assert!(rt; nothing_is(settings(&mut calls, &mut memory), fits));
+        assert!(rt; nothing_is(names(&mut calls, &mut memory), fits));
+        assert!(rt; nothing_is(paths(&mut calls, &mut memory), fits));
+        assert!(rt; nothing_is(more_paths(&mut calls, &mut memory), fits));
+        assert!(rt; nothing_is(others(&mut calls, &mut memory), fits));
     }
     Ok(())
 }
 
-#[test]
-fn other_calls_that_answer_nothing(rt: HostRuntime) -> Result<(), Fail> {
-    for fits in [true, false] {
-        let mut replies = Vec::new(rt.alloc());
-        for _ in 0..12 {
-            replies.push(nothing_or_number(fits))?;
-        }
-        let mut snapshot = MemSnapshot1::new(replies);
-        let mut calls = Unstable(&mut snapshot);
-        let mut memory = memory_of(rt.alloc(), &[])?;
-        let path = (0, 4);
-        let follow = Lookupflags::SYMLINK_FOLLOW;
-        let answers = [
-            calls.args_get(&mut memory, 0, 8),
-            calls.environ_get(&mut memory, 0, 8),
-            calls.path_create_directory(&mut memory, 3, path),
-            calls.path_filestat_set_times(&mut memory, 3, follow, path, 1, 2, Fstflags::MTIM),
-            calls.path_link(&mut memory, 3, follow, path, 4, path),
-            calls.path_remove_directory(&mut memory, 3, path),
-            calls.path_rename(&mut memory, 3, path, 4, path),
-            calls.path_symlink(&mut memory, path, 3, path),
-            calls.path_unlink_file(&mut memory, 3, path),
-            calls.proc_raise(&mut memory, Signal::Hup),
-            calls.sched_yield(&mut memory),
-            calls.random_get(&mut memory, 0, 8),
-        ];
-        for answer in answers {
-            match answer {
-                Ok(()) => assert!(rt; fits),
-                Err(error) => assert!(rt; !fits && matches!(error, Error::Normal(Errno::Nosys))),
-            }
-        }
+fn reads(calls: &mut Calls<'_>, memory: &mut GuestMemory) -> [Result<u32, Error>; 4] {
+    let path = (0, 4);
+    [
+        calls.fd_read(memory, 3, path),
+        calls.fd_pread(memory, 3, path, 5),
+        calls.fd_write(memory, 3, path),
+        calls.fd_pwrite(memory, 3, path, 5),
+    ]
+}
+
+fn opens(
+    calls: &mut Calls<'_>,
+    alloc: Global,
+    memory: &mut GuestMemory,
+) -> [Result<u32, Error>; 4] {
+    let path = (0, 4);
+    let follow = Lookupflags::SYMLINK_FOLLOW;
+    let rights = Rights::FD_READ;
+    [
+        calls.fd_readdir(memory, 3, 0, 8, 1),
+        calls.path_open(
+            memory,
+            3,
+            follow,
+            path,
+            Oflags::CREAT,
+            rights,
+            rights,
+            Fdflags::SYNC,
+        ),
+        calls.path_readlink(memory, 3, path, 0, 8),
+        calls.poll_oneoff(alloc, memory, 0, 0, 0),
+    ]
+}
+
+fn times(calls: &mut Calls<'_>, memory: &mut GuestMemory) -> [Result<u64, Error>; 4] {
+    [
+        calls.clock_res_get(memory, Clockid::Monotonic),
+        calls.clock_time_get(memory, Clockid::Realtime, 1),
+        calls.fd_seek(memory, 3, -1, Whence::End),
+        calls.fd_tell(memory, 3),
+    ]
+}
+
+fn sizes_are(answers: [Result<u32, Error>; 4], fits: bool) -> bool {
+    let mut all = true;
+    for answer in answers {
+        all = all
+            && match answer {
+                Ok(size) => fits && size == 4294967295,
+                Err(error) => !fits && matches!(error, Error::Normal(Errno::Nosys)),
+            };
     }
-    Ok(())
+    all
+}
+
+fn numbers_are(answers: [Result<u64, Error>; 4], fits: bool) -> bool {
+    let mut all = true;
+    for answer in answers {
+        all = all
+            && match answer {
+                Ok(number) => fits && number == 4294967296,
+                Err(error) => !fits && matches!(error, Error::Normal(Errno::Nosys)),
+            };
+    }
+    all
 }
 
 #[test]
@@ -114,51 +206,39 @@ fn calls_that_answer_a_number(rt: HostRuntime) -> Result<(), Fail> {
         let mut snapshot = MemSnapshot1::new(replies);
         let mut calls = Unstable(&mut snapshot);
         let mut memory = memory_of(rt.alloc(), &[])?;
-        let path = (0, 4);
-        let follow = Lookupflags::SYMLINK_FOLLOW;
-        let sizes = [
-            calls.fd_read(&mut memory, 3, path),
-            calls.fd_pread(&mut memory, 3, path, 5),
-            calls.fd_write(&mut memory, 3, path),
-            calls.fd_pwrite(&mut memory, 3, path, 5),
-            calls.fd_readdir(&mut memory, 3, 0, 8, 1),
-            calls.path_open(
-                &mut memory,
-                3,
-                follow,
-                path,
-                Oflags::CREAT,
-                Rights::FD_READ,
-                Rights::FD_READ,
-                Fdflags::SYNC,
-            ),
-            calls.path_readlink(&mut memory, 3, path, 0, 8),
-            calls.poll_oneoff(rt.alloc(), &mut memory, 0, 0, 0),
-        ];
-        for size in sizes {
-            match size {
-                Ok(size) => assert!(rt; fits && size == 4294967295),
-                Err(error) => assert!(rt; !fits && matches!(error, Error::Normal(Errno::Nosys))),
-            }
-        }
-        let numbers = [
-            calls.clock_res_get(&mut memory, Clockid::Monotonic),
-            calls.clock_time_get(&mut memory, Clockid::Realtime, 1),
-            calls.fd_seek(&mut memory, 3, -1, Whence::End),
-            calls.fd_tell(&mut memory, 3),
-        ];
-        for number in numbers {
-            match number {
-                Ok(number) => assert!(rt; fits && number == 4294967296),
-                Err(error) => assert!(rt; !fits && matches!(error, Error::Normal(Errno::Nosys))),
-            }
-        }
+        assert!(rt; sizes_are(reads(&mut calls, &mut memory), fits));
+        assert!(rt; sizes_are(opens(&mut calls, rt.alloc(), &mut memory), fits));
+        assert!(rt; numbers_are(times(&mut calls, &mut memory), fits));
     }
     Ok(())
 }
 
 #[test]
-fn calls_that_answer_more(rt: HostRuntime) -> Result<(), Fail> {
+fn calls_that_answer_pairs_and_stats(rt: HostRuntime) -> Result<(), Fail> {
+    let descriptor = p1::Fdstat {
+        fs_filetype: p1::Filetype::Directory,
+        fs_flags: p1::Fdflags::from_bits_retain(0xffff),
+        fs_rights_base: p1::Rights::FD_READ,
+        fs_rights_inheriting: p1::Rights::FD_WRITE,
+    };
+    let replies = vec![in rt.alloc();
+        Reply::Pair(1, 2),
+        Reply::Pair(3, 4),
+        Reply::Fdstat(descriptor),
+    ]?;
+    let mut snapshot = MemSnapshot1::new(replies);
+    let mut calls = Unstable(&mut snapshot);
+    let mut memory = memory_of(rt.alloc(), &[])?;
+    assert!(rt; matches!(calls.args_sizes_get(&mut memory), Ok((1, 2))));
+    assert!(rt; matches!(calls.environ_sizes_get(&mut memory), Ok((3, 4))));
+    let answer = calls.fd_fdstat_get(&mut memory, 3).ok().ok_or("no stat")?;
+    assert_eq!(rt; answer.fs_flags.bits(), 0x1f);
+    assert_eq!(rt; answer.fs_rights_inheriting, Rights::FD_WRITE);
+    Ok(())
+}
+
+#[test]
+fn calls_that_answer_files(rt: HostRuntime) -> Result<(), Fail> {
     let stat = p1::Filestat {
         dev: 1,
         ino: 2,
@@ -169,17 +249,8 @@ fn calls_that_answer_more(rt: HostRuntime) -> Result<(), Fail> {
         mtim: 5,
         ctim: 6,
     };
-    let descriptor = p1::Fdstat {
-        fs_filetype: p1::Filetype::Directory,
-        fs_flags: p1::Fdflags::from_bits_retain(0xffff),
-        fs_rights_base: p1::Rights::FD_READ,
-        fs_rights_inheriting: p1::Rights::FD_WRITE,
-    };
     let given = p1::Prestat::Dir(p1::PrestatDir { pr_name_len: 7 });
     let replies = vec![in rt.alloc();
-        Reply::Pair(1, 2),
-        Reply::Pair(3, 4),
-        Reply::Fdstat(descriptor),
         Reply::Filestat(stat),
         Reply::Filestat(stat),
         Reply::Prestat(given),
@@ -188,36 +259,40 @@ fn calls_that_answer_more(rt: HostRuntime) -> Result<(), Fail> {
     let mut snapshot = MemSnapshot1::new(replies);
     let mut calls = Unstable(&mut snapshot);
     let mut memory = memory_of(rt.alloc(), &[])?;
-    let path = (0, 4);
-    let follow = Lookupflags::SYMLINK_FOLLOW;
-    assert!(rt; matches!(calls.args_sizes_get(&mut memory), Ok((1, 2))));
-    assert!(rt; matches!(calls.environ_sizes_get(&mut memory), Ok((3, 4))));
-    let answer = calls.fd_fdstat_get(&mut memory, 3).ok().ok_or("no stat")?;
-    assert_eq!(rt; answer.fs_flags.bits(), 0x1f);
-    assert_eq!(rt; answer.fs_rights_inheriting, Rights::FD_WRITE);
     let answer = calls.fd_filestat_get(&mut memory, 3).ok().ok_or("no stat")?;
     assert_eq!(rt; answer.nlink, 4294967295);
-    let answer = calls
-        .path_filestat_get(&mut memory, 3, follow, path)
-        .ok()
-        .ok_or("no stat")?;
-    assert_eq!(rt; answer.ctim, 6);
+    let follow = Lookupflags::SYMLINK_FOLLOW;
+    let answer = calls.path_filestat_get(&mut memory, 3, follow, (0, 4));
+    assert_eq!(rt; answer.ok().ok_or("no stat")?.ctim, 6);
     let Prestat::Dir(dir) = calls
         .fd_prestat_get(&mut memory, 3)
         .ok()
         .ok_or("not given")?;
     assert_eq!(rt; dir.pr_name_len, 7);
-    assert!(rt;
-        matches!(
-            calls.proc_exit(&mut memory, 5),
-            Ok(TrapText::NumberOutOfRange)
-        )
-    );
+    let answer = calls.proc_exit(&mut memory, 5);
+    assert!(rt; matches!(answer, Ok(TrapText::NumberOutOfRange)));
+    Ok(())
+}
+
+#[test]
+fn calls_with_no_reply_left(rt: HostRuntime) -> Result<(), Fail> {
+    let mut snapshot = MemSnapshot1::new(Vec::new(rt.alloc()));
+    let mut calls = Unstable(&mut snapshot);
+    let mut memory = memory_of(rt.alloc(), &[])?;
     assert!(rt; is_nosys(calls.args_sizes_get(&mut memory)));
     assert!(rt; is_nosys(calls.environ_sizes_get(&mut memory)));
     assert!(rt; is_nosys(calls.fd_fdstat_get(&mut memory, 3)));
     assert!(rt; is_nosys(calls.fd_filestat_get(&mut memory, 3)));
-    assert!(rt; is_nosys(calls.path_filestat_get(&mut memory, 3, follow, path)));
+    Ok(())
+}
+
+#[test]
+fn more_calls_with_no_reply_left(rt: HostRuntime) -> Result<(), Fail> {
+    let mut snapshot = MemSnapshot1::new(Vec::new(rt.alloc()));
+    let mut calls = Unstable(&mut snapshot);
+    let mut memory = memory_of(rt.alloc(), &[])?;
+    let follow = Lookupflags::SYMLINK_FOLLOW;
+    assert!(rt; is_nosys(calls.path_filestat_get(&mut memory, 3, follow, (0, 4))));
     assert!(rt; is_nosys(calls.fd_prestat_get(&mut memory, 3)));
     assert!(rt; is_nosys(calls.proc_exit(&mut memory, 5)));
     Ok(())
