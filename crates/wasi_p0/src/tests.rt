@@ -275,8 +275,9 @@ fn calls_that_answer_files(rt: HostRuntime) -> Result<(), Fail> {
 }
 
 #[test]
-fn calls_with_no_reply_left(rt: HostRuntime) -> Result<(), Fail> {
-    let mut snapshot = MemSnapshot1::new(Vec::new(rt.alloc()));
+fn calls_whose_reply_does_not_fit(rt: HostRuntime) -> Result<(), Fail> {
+    let replies = vec![in rt.alloc(); Reply::Done, Reply::Done, Reply::Done, Reply::Done]?;
+    let mut snapshot = MemSnapshot1::new(replies);
     let mut calls = Unstable(&mut snapshot);
     let mut memory = memory_of(rt.alloc(), &[])?;
     assert!(rt; is_nosys(calls.args_sizes_get(&mut memory)));
@@ -287,8 +288,9 @@ fn calls_with_no_reply_left(rt: HostRuntime) -> Result<(), Fail> {
 }
 
 #[test]
-fn more_calls_with_no_reply_left(rt: HostRuntime) -> Result<(), Fail> {
-    let mut snapshot = MemSnapshot1::new(Vec::new(rt.alloc()));
+fn more_calls_whose_reply_does_not_fit(rt: HostRuntime) -> Result<(), Fail> {
+    let replies = vec![in rt.alloc(); Reply::Done, Reply::Done, Reply::Done]?;
+    let mut snapshot = MemSnapshot1::new(replies);
     let mut calls = Unstable(&mut snapshot);
     let mut memory = memory_of(rt.alloc(), &[])?;
     let follow = Lookupflags::SYMLINK_FOLLOW;
