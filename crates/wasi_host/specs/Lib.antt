@@ -1,4 +1,6 @@
+pub mod Entry
 pub mod Reply
+pub mod Calls
 pub mod Host
 pub mod Run
 pub mod Transcript
