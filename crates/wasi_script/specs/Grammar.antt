@@ -1,5 +1,5 @@
 -- Which scripts are valid, and the steps that they stand for.
-use Rattle.std.specs.Prelude.{◌≡◌, ℕ, ◌+◌, Bool, true, false, cond, not, ◌&&◌, nat_eq, nat_lt, List, [], ◌∷◌, Option, Some, None, codes}
+use Rattle.std.specs.Prelude.{◌≡◌, ℕ, ◌+◌, Bool, true, false, cond, not, ◌&&◌, nat_eq, nat_le, nat_lt, List, [], ◌∷◌, Option, Some, None, codes}
 use Rattle.std.specs.List.{slice_split}
 use Rattle.std.specs.Option.{option_and_then, option_map}
 use Rattle.std.specs.Str.{bytes_eq}
@@ -97,7 +97,7 @@ also guest test number = cond (nat_eq number guest) true (test number)
 -- a step may stand after these lines: a guest's capacity is set before its first call
 abbrev pub may_stand : Names → Line → Bool
 may_stand names (line.Guest guest input) = nat_lt guest 64 && not (names.is_guest guest)
-may_stand names (line.Capacity guest capacity) = names.is_guest guest && not (names.was_called guest)
+may_stand names (line.Capacity guest capacity) = (nat_le 1 capacity && nat_le capacity 65536) && (names.is_guest guest && not (names.was_called guest))
 may_stand names (line.Call guest call) = names.is_guest guest
 may_stand names line.Capture = true
 may_stand names line.Deliver = true

@@ -28,8 +28,9 @@ impl Guests {
     {
         match line {
             Line::Guest { guest, input: _ } => guest < 64 && !self.declared[guest as usize],
-            Line::Capacity { guest, capacity: _ } => {
-                guest < 64 && self.declared[guest as usize] && !self.called[guest as usize]
+            Line::Capacity { guest, capacity } => {
+                (1 <= capacity && capacity <= 65536)
+                    && (guest < 64 && self.declared[guest as usize] && !self.called[guest as usize])
             }
             Line::Call { guest, call: _ } => guest < 64 && self.declared[guest as usize],
             Line::Capture | Line::Deliver => true,
