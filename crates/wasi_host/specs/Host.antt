@@ -60,7 +60,7 @@ settled guest done = record {
 
 -- a guest that ended is told so, and nothing else happens
 abbrev pub answer_by : Bool → Call → Guest → Shared → Answered
-answer_by true call guest shared = record { reply = reply.Ended; guest = record { settings = guest.settings; own = guest.own; was_called = true; ended = true }; shared = shared }
+answer_by true call guest shared = record { reply = reply.Ended; guest = record { settings = guest.settings; own = guest.own; was_called = true; ended = guest.ended }; shared = shared }
 answer_by false call guest shared = settled guest (call_rule call guest.settings guest.own shared)
 
 abbrev pub answer_to : Call → Guest → Shared → Answered

@@ -7,6 +7,7 @@ pub mod Transcript
 pub mod Laws
 pub mod Steps
 pub mod Shown
+pub mod Owned
 pub mod Rules
 pub mod Lines
 pub mod Headline
