@@ -46,6 +46,7 @@ module _ {X : Type 0} (p : X → Bool) where
   passing (Some x) = p x
 
   any_found : (es : List (ℕ × X)) (n : ℕ) (x : X) → find nat_cmp n es ≡ Some x → p x ≡ true → list_any p (map (λ e. e.1) es) ≡ true
+  unfolding passing
   any_found [] n x found passes = absurd (no_entry x found)
   any_found (e ∷ es) n x found passes = by (λ is. any_found es n x is passes) (eq_by_cmp nat_cmp n e.0) found
     where
