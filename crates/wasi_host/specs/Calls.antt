@@ -1,6 +1,6 @@
 -- What each call replies, and what it leaves of its guest's own and of the shared input. A call sees its
 -- guest's settings and never gives them back.
-use Rattle.std.specs.Prelude.{ℕ, Bool, cond, nat_eq, Option, Some, None}
+use Rattle.std.specs.Prelude.{ℕ, cond, nat_eq, Option, Some, None}
 use Rattle.wasi_base.specs.declared.trap_text.TrapText.TheVariants.{ResourceNotPresent, ResourceWrongType, ResourceHasChildren, ResourceTableFull}
 use Rattle.wasi_table.specs.Table.{Table, held_at, entry_in, live_count, next_number, with_pushed, with_entry, without, has_children}
 use Rattle.wasi_stdin.specs.Shared.{Shared, Reading, Skipped, Polling, skipped, reading_of, after_read, poll_of, after_poll, wait_after_poll, is_ready, after_ready, block_of, after_block, wait_after_block}

@@ -15,13 +15,13 @@ use Rattle.wasi_script.specs.declared.lines.Line.{Line}
 use Rattle.wasi_script.specs.declared.lines.Line.TheVariants as line
 use Rattle.wasi_script.specs.declared.lines.Call.{Call}
 use Rattle.wasi_script.specs.Grammar.{AllStand, may_stand, no_names}
-use Rattle.wasi_table.specs.Table.{Held, held_at, new_table}
+use Rattle.wasi_table.specs.Table.{Held, held_at}
 use Rattle.wasi_host.specs.declared.entry.Entry.{Entry}
 use Rattle.wasi_host.specs.Host.{Guest, Host, Answered, new_guest, with_capacity, was_called_in, answer_in, names_of, new_host, given_for, size_read, step_reply, step_host, step_told, replies, host_end, told_end}
 use Rattle.wasi_host.specs.Run.{Standing, Sharing, Rule, IsRun, at_number, at_start, EndedRule}
 use Rattle.wasi_host.specs.Transcript.{ShowsRun, transcript, told_after_run}
 use Rattle.wasi_host.specs.Owned.{IsOwn, own_new}
-use Rattle.wasi_host.specs.Shown.{standing_of, standing_in, standing_with, capacity_in, ended_in, shown, cond_same, get_set, shown_put, nothing_stands, declare_same}
+use Rattle.wasi_host.specs.Shown.{standing_of, standing_in, standing_with, ended_in, shown, cond_same, get_set, shown_put, nothing_stands, declare_same}
 use Rattle.wasi_host.specs.Rules.{IsGuest, OwnedBy, owned_put, Next, call_next, capture_next, deliver_next}
 use Rattle.wasi_host.specs.Steps.{names_step, names_new, places_step, within, first_of, second_of}
 use Rattle.wasi_host.specs.Lines.{are_lines}

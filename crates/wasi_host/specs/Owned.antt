@@ -1,12 +1,12 @@
 -- What holds of what a guest owns and of the run's live numbers, and what keeps it.
-use Rattle.std.proofs.Common.{◌≡◌, ℕ, ◌+◌, ◌-◌, ◌≤◌, Bool, true, false, cond, Option, Some, None, refl, ap, arith, ◌∙◌, sym, subst, true≢false}
-use Rattle.std.specs.Prelude.{eqb, nat_eq, is_some, not, ◌&&◌, ◌||◌}
+use Rattle.std.proofs.Common.{◌≡◌, ℕ, ◌+◌, ◌-◌, ◌≤◌, Bool, true, false, cond, Option, Some, None, refl, ap, ◌∙◌, sym, subst, true≢false}
+use Rattle.std.specs.Prelude.{eqb, is_some, not, ◌&&◌, ◌||◌}
 use Rattle.std.proofs.lemmas.Bool.{eqb-true, cond-true, cond-false}
-use Rattle.std.specs.Ordering.{nat_cmp, eq_by_cmp}
+use Rattle.std.specs.Ordering.{nat_cmp}
 use Rattle.std.specs.Cmp.{nat_cmp_total}
 use Rattle.std.specs.FinMap as map
 use Rattle.std.specs.FinSet.{FinSet, empty, contains, insert, remove, len, contains-empty, contains-insert, contains-remove, len-empty, len-insert, len-remove}
-use Rattle.wasi_table.specs.Table.{Table, Held, held_at, is_live, live_count, new_table, next_number, with_pushed, with_entry, without, push_refusal, parent_in, entry_in, has_children}
+use Rattle.wasi_table.specs.Table.{Held, held_at, is_live, live_count, new_table, next_number, with_pushed, without, push_refusal, parent_in, entry_in, has_children}
 use Rattle.wasi_table.specs.Children.{has_child}
 use Rattle.wasi_table.specs.Sound.{IsTable}
 use Rattle.wasi_table.specs.Laws.{held-insert, held-remove, held-next_number, is_eq-nat_cmp, live_count-pushed, new_table-IsTable, pushed-IsTable, without-IsTable, with_entry-IsTable}

@@ -1,28 +1,27 @@
 -- The host follows the run's rules: one lemma a rule.
-use Rattle.std.proofs.Common.{◌≡◌, ℕ, zero, suc, ◌+◌, ◌<◌, ◌≤◌, min, max, Bool, true, false, cond, not, List, [], ◌∷◌, ◌++◌, length, Option, Some, None, refl, ap, arith, ◌∙◌, sym, subst, take-append-drop, true≢false}
-use Rattle.std.specs.Prelude.{eqb, nat_eq, nat_lt, is_some, ◌⊎◌}
+use Rattle.std.proofs.Common.{◌≡◌, ℕ, zero, suc, ◌+◌, ◌<◌, min, max, Bool, true, false, cond, not, List, [], ◌∷◌, ◌++◌, length, Option, Some, None, refl, ap, arith, ◌∙◌, sym, subst, take-append-drop, true≢false}
+use Rattle.std.specs.Prelude.{eqb, nat_eq, nat_lt, is_some}
 use Rattle.std.proofs.Common.{inl, inr}
 use Rattle.std.specs.Option.{option_map}
 use Rattle.std.specs.Ordering.{nat_cmp}
-use Rattle.std.specs.FinSet.{FinSet, empty, contains, insert, remove, len}
-use Rattle.std.proofs.lemmas.Bool.{cond-true, cond-false}
-use Rattle.std.proofs.lemmas.Bool.Decides.{nat_tests}
+use Rattle.std.specs.FinSet.{FinSet, empty}
+use Rattle.std.proofs.lemmas.Bool.{cond-true}
 use Rattle.std.proofs.lemmas.Grind.{common_steps}
 use Rattle.wasi_base.specs.declared.source.Plan.{Plan}
 use Rattle.wasi_base.specs.declared.source.Plan.TheVariants.{Take, Fail}
 use Rattle.wasi_base.specs.declared.trap_text.TrapText.TheVariants.{ResourceNotPresent, ResourceWrongType, ResourceHasChildren, ResourceTableFull}
 use Rattle.wasi_base.specs.Source.{Told, Given, gives, told_after, given_by, told_by}
 use Rattle.wasi_base.specs.Source as given
-use Rattle.wasi_table.specs.declared.error.TableError.TheVariants.{NotPresent, Full}
-use Rattle.wasi_table.specs.Table.{Table, Held, held_at, entry_in, parent_in, is_live, live_count, new_table, next_number, with_pushed, with_entry, without, push_refusal, has_children}
+use Rattle.wasi_table.specs.declared.error.TableError.TheVariants.{Full}
+use Rattle.wasi_table.specs.Table.{Held as Row, held_at, entry_in, parent_in, is_live, live_count, new_table, next_number, with_pushed, without, push_refusal, has_children}
 use Rattle.wasi_table.specs.Laws.{held-insert, held-remove, held-next_number}
 use Rattle.wasi_table.specs.Children.{Child, child_of, has_child}
 use Rattle.wasi_stdin.specs.declared.mode.Mode.{Mode}
 use Rattle.wasi_stdin.specs.declared.mode.Mode.TheVariants.{Idle, Asked, Held, Failed, Closed}
-use Rattle.wasi_stdin.specs.Shared as shared
+use Rattle.wasi_stdin.specs.Shared as stdin
 use Rattle.wasi_stdin.specs.Shared.{Shared, Reading, Skipped, Polling, Met, IsSound, HoldsIn, CapturedIn, met_in, after_in, meeting_of, after_meeting, reading, reading_of, after_read, told_fault, skipped, polling, poll_of, after_poll, wait_of, wait_after_poll, is_waiting, ready_in, is_ready, asked_by_ready, after_ready, block_of, after_block, wait_after_block, mode_holding, capture_at, capture_of, captured_by, after_capture, outcome_of, mode_given, held_given, delivered}
 use Rattle.wasi_script.specs.declared.lines.Input.{Input}
-use Rattle.wasi_script.specs.declared.lines.Input.TheVariants as input
+use Rattle.wasi_script.specs.declared.lines.Input.TheVariants as from
 use Rattle.wasi_script.specs.declared.lines.Line.TheVariants as line
 use Rattle.wasi_script.specs.declared.lines.Call.{Call}
 use Rattle.wasi_script.specs.declared.lines.Call.TheVariants as call
@@ -31,12 +30,12 @@ use Rattle.wasi_host.specs.declared.entry.Entry.TheVariants as entry
 use Rattle.wasi_host.specs.declared.reply.Reply.{Reply}
 use Rattle.wasi_host.specs.declared.reply.Reply.TheVariants as reply
 use Rattle.wasi_host.specs.Reply.{ends}
-use Rattle.wasi_host.specs.Calls.{Settings, Own, Called, only_reply, entry_at, made, input_made, with_kept, read_at, skip_at, poll_at, subscribe_at, ready_at, block_at, drop_at, call_rule, reading_reply, skipped_reply, polling_reply}
-use Rattle.wasi_host.specs.Host.{Guest, Answered, left_own, answer_by, capture_reply, outcome_reply, delivery_reply, after_delivery, given_for, told_for}
+use Rattle.wasi_host.specs.Calls.{Own, Called, only_reply, entry_at, made, input_made, with_kept, read_at, skip_at, poll_at, subscribe_at, ready_at, block_at, drop_at, call_rule, reading_reply, skipped_reply, polling_reply}
+use Rattle.wasi_host.specs.Host.{Guest, Answered, answer_by, capture_reply, outcome_reply, delivery_reply, after_delivery, given_for, told_for}
 use Rattle.wasi_host.specs.Run.{Standing, Sharing, Rule, at_number, with_standing, without_standing, without_guest, held_count, after_row, ReadRule, SkipRule, counted, is_over, PollRow, ready_row, after_ready_row, ReadyRule, block_row, BlockRow, BlockRule, MakeRule, is_full, HasPollable, DropReader, ReadAt, SkipAt, PollAt, SubscribeAt, ReadyAt, BlockAt, DropAt, CallRule, live_after, left_by, EndedRule, size_captured, CaptureRule, delivery_row, delivery_answer, delivered_row, DeliverRule}
 use Rattle.wasi_host.specs.Run as run
 use Rattle.wasi_host.specs.Owned.{IsParented, IsOwn, own_pushed, own_kept, own_dropped, own_left}
-use Rattle.wasi_host.specs.Shown.{parent_or, standing_by, standing_of, standing_in, standing_with, capacity_in, ended_in, shown, cond_same, with_own, put_alike, put_same, put_standing, put_none, nothing_stands, asked_none, sound_at, row_next}
+use Rattle.wasi_host.specs.Shown.{parent_or, standing_by, standing_of, standing_in, standing_with, capacity_in, ended_in, shown, cond_same, with_own, put_alike, put_same, put_standing, put_none, nothing_stands, asked_none, row_next}
 
 cond_map : {A B : Type 0} (f : A → B) (b : Bool) (x y : A) → f (cond b x y) ≡ cond b (f x) (f y)
 cond_map f true x y = refl
@@ -44,24 +43,24 @@ cond_map f false x y = refl
 
 -- ---- what a reply leaves of the live numbers
 reading_live : (c : Call) (it : Reading) (live : FinSet nat_cmp) → live_after c (reading_reply it) live ≡ live
-reading_live c (shared.Bytes bytes) live = refl
-reading_live c shared.Ended live = refl
-reading_live c (shared.Fault kind) live = refl
+reading_live c (stdin.Bytes bytes) live = refl
+reading_live c stdin.Ended live = refl
+reading_live c (stdin.Fault kind) live = refl
 
 skipped_live : (c : Call) (it : Reading) (live : FinSet nat_cmp) → live_after c (skipped_reply (skipped it)) live ≡ live
-skipped_live c (shared.Bytes bytes) live = refl
-skipped_live c shared.Ended live = refl
-skipped_live c (shared.Fault kind) live = refl
+skipped_live c (stdin.Bytes bytes) live = refl
+skipped_live c stdin.Ended live = refl
+skipped_live c (stdin.Fault kind) live = refl
 
 polling_live : (c : Call) (it : Polling) (live : FinSet nat_cmp) → live_after c (polling_reply it) live ≡ live
-polling_live c (shared.Polled bytes) live = refl
-polling_live c shared.Pending live = refl
-polling_live c (shared.PollFault kind) live = refl
+polling_live c (stdin.Polled bytes) live = refl
+polling_live c stdin.Pending live = refl
+polling_live c (stdin.PollFault kind) live = refl
 
 counted_is : (it : Reading) → skipped_reply (skipped it) ≡ counted (reading_reply it)
-counted_is (shared.Bytes bytes) = refl
-counted_is shared.Ended = refl
-counted_is (shared.Fault kind) = refl
+counted_is (stdin.Bytes bytes) = refl
+counted_is stdin.Ended = refl
+counted_is (stdin.Fault kind) = refl
 
 waiting_is : (wait : Option ℕ) (deliveries : ℕ) → is_waiting wait deliveries ≡ not (is_over wait deliveries)
 waiting_is None deliveries = refl
@@ -164,7 +163,7 @@ module _ (input front : List ℕ) (shared : Shared) (guests : ℕ → Option Gue
         rule = follows _ (next.read guests live, put_same next.front' (after_read shared (suc n)) guests live told g guest there ∙ next.state guests live);
       }
 
-  read_does : (n size : ℕ) (o : Option (Held Entry)) → DoesCall (call.Read n size) (read_at (entry_in o) size guest.own shared) (λ answer s'. ReadAt (option_map standing_of o) input now size answer s')
+  read_does : (n size : ℕ) (o : Option (Row Entry)) → DoesCall (call.Read n size) (read_at (entry_in o) size guest.own shared) (λ answer s'. ReadAt (option_map standing_of o) input now size answer s')
   read_does n size None = still (call.Read n size) (reply.Trap ResourceNotPresent) _ refl refl
   read_does n size (Some held) = by held.entry held.parent
     where
@@ -173,7 +172,7 @@ module _ (input front : List ℕ) (shared : Shared) (guests : ℕ → Option Gue
       by (entry.Polled wait) parent = still (call.Read n size) (reply.Trap ResourceWrongType) _ refl refl
       by (entry.Pollable wait) parent = still (call.Read n size) (reply.Trap ResourceWrongType) _ refl refl
 
-  skip_does : (n size : ℕ) (o : Option (Held Entry)) → DoesCall (call.Skip n size) (skip_at (entry_in o) size guest.own shared) (λ answer s'. SkipAt (option_map standing_of o) input now size answer s')
+  skip_does : (n size : ℕ) (o : Option (Row Entry)) → DoesCall (call.Skip n size) (skip_at (entry_in o) size guest.own shared) (λ answer s'. SkipAt (option_map standing_of o) input now size answer s')
   skip_does n size None = still (call.Skip n size) (reply.Trap ResourceNotPresent) _ refl refl
   skip_does n size (Some held) = by held.entry held.parent
     where
@@ -192,7 +191,7 @@ module _ (input front : List ℕ) (shared : Shared) (guests : ℕ → Option Gue
 
   abbrev polled_called : Bool → Option ℕ → ℕ → ℕ → Called
   polled_called waiting wait n room = record {
-    reply = polling_reply (cond waiting shared.Pending (polling (meeting_of shared room)));
+    reply = polling_reply (cond waiting stdin.Pending (polling (meeting_of shared room)));
     own = with_kept guest.own n (entry.Polled (cond waiting wait (wait_of (meeting_of shared room) shared.deliveries)));
     shared = cond waiting shared (after_meeting shared room);
   }
@@ -228,7 +227,7 @@ module _ (input front : List ℕ) (shared : Shared) (guests : ℕ → Option Gue
       polled_again wait left None h = tt
       polled_again wait left (Some p) h = h
 
-  poll_does : (n room : ℕ) (o : Option (Held Entry)) → held_at guest.own.table n ≡ o → DoesCall (call.PollRead n room) (poll_at (entry_in o) n room guest.own shared) (λ answer s'. PollAt (option_map standing_of o) input now g n room answer s')
+  poll_does : (n room : ℕ) (o : Option (Row Entry)) → held_at guest.own.table n ≡ o → DoesCall (call.PollRead n room) (poll_at (entry_in o) n room guest.own shared) (λ answer s'. PollAt (option_map standing_of o) input now g n room answer s')
   poll_does n room None held = still (call.PollRead n room) (reply.Trap ResourceNotPresent) _ refl refl
   poll_does n room (Some it) held = by it.entry it.parent held
     where
@@ -272,7 +271,7 @@ module _ (input front : List ℕ) (shared : Shared) (guests : ℕ → Option Gue
   no_parent : (it : Entry) (p : ℕ) → None ≡ Some p → entry_at guest.own p ≡ Some entry.Reader
   no_parent it p e = absurd (true≢false (sym (ap is_some e)))
 
-  subscribe_does : (n : ℕ) (o : Option (Held Entry)) → held_at guest.own.table n ≡ o → DoesCall (call.Subscribe n) (subscribe_at (entry_in o) n guest.own shared) (λ answer s'. SubscribeAt (option_map standing_of o) now g n answer s')
+  subscribe_does : (n : ℕ) (o : Option (Row Entry)) → held_at guest.own.table n ≡ o → DoesCall (call.Subscribe n) (subscribe_at (entry_in o) n guest.own shared) (λ answer s'. SubscribeAt (option_map standing_of o) now g n answer s')
   subscribe_does n None held = still (call.Subscribe n) (reply.Trap ResourceNotPresent) _ refl refl
   subscribe_does n (Some it) held = by it.entry it.parent held
     where
@@ -282,7 +281,7 @@ module _ (input front : List ℕ) (shared : Shared) (guests : ℕ → Option Gue
       by (entry.Pollable wait) parent held = still (call.Subscribe n) (reply.Trap ResourceWrongType) _ refl refl
 
   -- ---- a pollable
-  ready_does : (n : ℕ) (o : Option (Held Entry)) → DoesCall (call.Ready n) (ready_at (entry_in o) guest.own shared) (λ answer s'. ReadyAt (option_map standing_of o) now answer s')
+  ready_does : (n : ℕ) (o : Option (Row Entry)) → DoesCall (call.Ready n) (ready_at (entry_in o) guest.own shared) (λ answer s'. ReadyAt (option_map standing_of o) now answer s')
   ready_does n None = still (call.Ready n) (reply.Trap ResourceNotPresent) _ refl refl
   ready_does n (Some held) = by held.entry held.parent
     where
@@ -341,7 +340,7 @@ module _ (input front : List ℕ) (shared : Shared) (guests : ℕ → Option Gue
       }
   blocks (Some since) n parent held = waits (nat_lt since shared.deliveries) since n parent held
 
-  block_does : (n : ℕ) (o : Option (Held Entry)) → held_at guest.own.table n ≡ o → DoesCall (call.Block n) (block_at (entry_in o) n guest.own shared) (λ answer s'. BlockAt (option_map standing_of o) now g n answer s')
+  block_does : (n : ℕ) (o : Option (Row Entry)) → held_at guest.own.table n ≡ o → DoesCall (call.Block n) (block_at (entry_in o) n guest.own shared) (λ answer s'. BlockAt (option_map standing_of o) now g n answer s')
   block_does n None held = still (call.Block n) (reply.Trap ResourceNotPresent) _ refl refl
   block_does n (Some it) held = by it.entry it.parent held
     where
@@ -370,7 +369,7 @@ module _ (input front : List ℕ) (shared : Shared) (guests : ℕ → Option Gue
   parent_is n wait (entry.Pollable w) None h e = absurd h
   parent_is n wait (entry.Pollable w) (Some p) h e = let same : p ≡ n = cc in ap Some same
 
-  child_in : (n m : ℕ) (wait : Option ℕ) (o : Option (Held Entry)) → held_at guest.own.table m ≡ o → option_map standing_of o ≡ Some (run.Pollable n wait) → Child guest.own.table n
+  child_in : (n m : ℕ) (wait : Option ℕ) (o : Option (Row Entry)) → held_at guest.own.table m ≡ o → option_map standing_of o ≡ Some (run.Pollable n wait) → Child guest.own.table n
   child_in n m wait None held e = absurd (true≢false (sym (ap is_some e)))
   child_in n m wait (Some it) held e =
       let same : standing_by it.entry it.parent ≡ run.Pollable n wait = cc in
@@ -401,7 +400,7 @@ module _ (input front : List ℕ) (shared : Shared) (guests : ℕ → Option Gue
       let reader : Some it ≡ Some entry.Reader = sym (ap entry_in held) ∙ is.under child.number n child.held child.is_held child.parent_is in
       other (cc)
 
-  drop_does : (n : ℕ) (o : Option (Held Entry)) → held_at guest.own.table n ≡ o → DoesCall (call.Drop n) (drop_at (entry_in o) n guest.own shared) (λ answer s'. DropAt (option_map standing_of o) now g n answer s')
+  drop_does : (n : ℕ) (o : Option (Row Entry)) → held_at guest.own.table n ≡ o → DoesCall (call.Drop n) (drop_at (entry_in o) n guest.own shared) (λ answer s'. DropAt (option_map standing_of o) now g n answer s')
   drop_does n None held = still (call.Drop n) (reply.Trap ResourceNotPresent) _ refl refl
   drop_does n (Some it) held = by it.entry it.parent held
     where
@@ -415,7 +414,7 @@ module _ (input front : List ℕ) (shared : Shared) (guests : ℕ → Option Gue
   at_there n = sym (ap (λ (o : Option Guest). standing_with o n) there)
 
   input_does : (c : Call) (it : Entry) (from : Input) → IsParented it None → DoesCall c (input_made it from guest.own shared) (λ answer s'. MakeRule (is_full now g) (standing_by it None) now g answer s')
-  input_does c it input.Shared parented = makes c it None room_for_one parented (no_parent it)
+  input_does c it from.Shared parented = makes c it None room_for_one parented (no_parent it)
 
   rule_does : (c : Call) → DoesCall c (call_rule c guest.settings guest.own shared) (λ answer s'. CallRule c input now g answer s')
   rule_does call.GetStdin = input_does call.GetStdin entry.Reader guest.settings.input tt

@@ -1,10 +1,10 @@
 -- What a host shows of the shared input, and what follows where somebody asks for bytes.
-use Rattle.std.proofs.Common.{◌≡◌, ℕ, zero, suc, ◌+◌, ◌-◌, ◌<◌, ◌≤◌, min, max, Bool, true, false, cond, List, [], ◌∷◌, ◌++◌, length, get_or, set, take, drop, Option, Some, None, refl, ap, arith, ◌∙◌, sym, subst, append_assoc, take-append-drop}
+use Rattle.std.proofs.Common.{◌≡◌, ℕ, ◌+◌, ◌-◌, ◌<◌, ◌≤◌, min, max, Bool, true, false, cond, List, [], ◌∷◌, ◌++◌, length, get_or, set, take, drop, Option, Some, None, refl, ap, arith, ◌∙◌, sym, subst, append_assoc, take-append-drop}
 use Rattle.std.specs.Prelude.{nat_eq}
 use Rattle.std.specs.Option.{option_map}
 use Rattle.std.specs.Ordering.{nat_cmp}
 use Rattle.std.specs.FinMap as map
-use Rattle.std.specs.FinSet.{FinSet, empty}
+use Rattle.std.specs.FinSet.{FinSet}
 use Rattle.std.proofs.lemmas.Bool.Decides.{nat_tests}
 use Rattle.std.proofs.lemmas.Grind.{common_steps}
 use Rattle.wasi_base.specs.declared.io_kind.IoKind.{IoKind}
@@ -13,7 +13,7 @@ use Rattle.wasi_base.specs.Source.{Told}
 use Rattle.wasi_stdin.specs.declared.mode.Mode.{Mode}
 use Rattle.wasi_stdin.specs.declared.mode.Mode.TheVariants.{Idle, Asked, Held, Failed, Closed}
 use Rattle.wasi_stdin.specs.Shared.{Shared, IsSound, HoldsIn, CapturedIn, met_in, after_in, reading, told_fault, polling, wait_of, mode_holding}
-use Rattle.wasi_table.specs.Table.{Table, Held, held_at, new_table}
+use Rattle.wasi_table.specs.Table.{Held as Row, held_at, new_table}
 use Rattle.wasi_script.specs.declared.lines.Input.{Input}
 use Rattle.wasi_host.specs.declared.entry.Entry.{Entry}
 use Rattle.wasi_host.specs.declared.entry.Entry.TheVariants as entry
@@ -32,7 +32,7 @@ standing_by entry.Reader parent = run.Reader
 standing_by (entry.Polled wait) parent = run.Polled wait
 standing_by (entry.Pollable wait) parent = run.Pollable (parent_or parent) wait
 
-abbrev pub standing_of : Held Entry → Standing
+abbrev pub standing_of : Row Entry → Standing
 standing_of held = standing_by held.entry held.parent
 
 abbrev pub standing_in : Own → ℕ → Option Standing
@@ -114,7 +114,7 @@ put_none front shared guests live told n k guest own e is same = put_own front s
 
 -- nothing stands in a new table
 pub nothing_stands : (capacity : ℕ) → standing_in (record { table = new_table capacity }) ≡ (λ n. None)
-nothing_stands capacity = λ i n. option_map standing_of (map.get-empty {X = Held Entry} nat_cmp n i)
+nothing_stands capacity = λ i n. option_map standing_of (map.get-empty {X = Row Entry} nat_cmp n i)
 
 -- a new guest shows nothing
 pub declare_same : (front : List ℕ) (shared : Shared) (guests : ℕ → Option Guest) (live : ℕ → FinSet nat_cmp) (told : Told) (n : ℕ) (from : Input) → guests n ≡ None → shown front shared (at_number guests n (Some (new_guest from))) live told ≡ shown front shared guests live told
@@ -146,7 +146,7 @@ asked_any : (c : Option ℕ) (n k : ℕ) → CapturedIn (Asked n) c → Captured
 asked_any None n k h = tt
 asked_any (Some size) n k h = h
 
-asked_none : (c : Option ℕ) (k : ℕ) → c ≡ None → CapturedIn (Asked k) c
+pub asked_none : (c : Option ℕ) (k : ℕ) → c ≡ None → CapturedIn (Asked k) c
 asked_none None k h = tt
 asked_none (Some size) k h = absurd (cc)
 
@@ -154,7 +154,7 @@ holding_sound : (held : List ℕ) (c : Option ℕ) (d : ℕ) → c ≡ None → 
 holding_sound [] c d h = record { holds = refl; captures = h }
 holding_sound (b ∷ bytes) c d h = record { holds = omega arith; captures = h }
 
-sound_at : (m : Mode) (s : Shared) → s.mode ≡ m → IsSound s → HoldsIn m s.held × CapturedIn m s.captured
+pub sound_at : (m : Mode) (s : Shared) → s.mode ≡ m → IsSound s → HoldsIn m s.held × CapturedIn m s.captured
 sound_at m s is sound = (subst (λ m. HoldsIn m s.held) is sound.holds, subst (λ m. CapturedIn m s.captured) is sound.captures)
 
 fault_read : (kind : IoKind) → reading_reply (told_fault kind) ≡ fault_to_read kind

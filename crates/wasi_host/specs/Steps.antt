@@ -1,12 +1,11 @@
 -- What steps come to: over a source that tells, what they declare, and how often they deliver.
 use Rattle.std.proofs.Common.{◌≡◌, ℕ, ◌+◌, ◌<◌, ◌≤◌, zero, suc, Bool, true, false, List, [], ◌∷◌, ◌++◌, length, get_or, set, drop, cond, Option, Some, None, refl, ap, arith, ◌∙◌, sym, subst, add-one, append-nil, append_assoc}
-use Rattle.std.specs.Prelude.{MatchOption, is_some, not, ◌&&◌, nat_eq, nat_le, nat_lt, replicate}
+use Rattle.std.specs.Prelude.{MatchOption, is_some, ◌&&◌, nat_eq, nat_le, replicate}
 use Rattle.std.specs.Option.{option_map}
 use Rattle.std.proofs.lemmas.Bool.Decides.{nat_tests}
 use Rattle.std.proofs.lemmas.Grind.{common_steps}
 use Rattle.std.proofs.Math.ListN.{length-set}
 use Rattle.std.proofs.Math.Seq.{drop-cons}
-use Rattle.wasi_base.specs.declared.trap_text.TrapText.TheVariants.{ResourceHasChildren, ResourceTableFull}
 use Rattle.wasi_base.specs.Source.{Told, Given, Gives}
 use Rattle.wasi_table.specs.Table.{live_count, has_children}
 use Rattle.wasi_stdin.specs.declared.mode.Mode.{Mode}
@@ -22,9 +21,8 @@ use Rattle.wasi_script.specs.Grammar.{AllStand, may_stand, names_after, no_names
 use Rattle.wasi_host.specs.declared.entry.Entry.{Entry}
 use Rattle.wasi_host.specs.declared.entry.Entry.TheVariants.{Reader, Polled, Pollable}
 use Rattle.wasi_host.specs.declared.reply.Reply.{Reply}
-use Rattle.wasi_host.specs.declared.reply.Reply.TheVariants as reply
 use Rattle.wasi_host.specs.Reply.{text_of_all, reply_line}
-use Rattle.wasi_host.specs.Calls.{Settings, Own, Called, only_reply, entry_at, made, read_at, skip_at, poll_at, subscribe_at, ready_at, block_at, drop_at, call_rule}
+use Rattle.wasi_host.specs.Calls.{Settings, Own, Called, entry_at, made, input_made, read_at, skip_at, poll_at, subscribe_at, ready_at, block_at, drop_at, call_rule}
 use Rattle.wasi_host.specs.Host.{Guest, Host, IsStep, new_guest, with_capacity, answer_by, answer_in, guest_of, was_called_in, host_after, step_reply, step_host, step_told, names_of, replies, told_end, delivery_reply, after_delivery, given_for, told_for, new_host}
 use Rattle.wasi_host.specs.Shown.{cond_same, get_set}
 
@@ -164,7 +162,15 @@ met_count Held s size = refl
 met_count (Failed kind) s size = refl
 met_count Closed s size = refl
 
-after_read_count : (entry : Option Entry) (size : ℕ) (own : Own) (s : Shared) → (read_at entry size own s).shared.deliveries ≡ s.deliveries
+after_read_count : (s : Shared) (size : ℕ) → (after_read s size).deliveries ≡ s.deliveries
+after_read_count s zero = refl
+after_read_count s (suc n) = met_count s.mode s (suc n)
+
+after_poll_count : (waiting : Bool) (s : Shared) (room : ℕ) → (cond waiting s (after_meeting s room)).deliveries ≡ s.deliveries
+after_poll_count true s room = refl
+after_poll_count false s room = met_count s.mode s room
+
+read_count : (entry : Option Entry) (size : ℕ) (own : Own) (s : Shared) → (read_at entry size own s).shared.deliveries ≡ s.deliveries
 read_count None size own s = refl
 read_count (Some Reader) size own s = after_read_count s size
 read_count (Some (Polled wait)) size own s = refl
@@ -188,6 +194,9 @@ shared_same false s x y p q = ap (λ (s : Shared). s.deliveries) q
 
 made_count : (entry : Entry) (parent : Option ℕ) (own : Own) (s : Shared) → (made entry parent own s).shared.deliveries ≡ s.deliveries
 made_count entry parent own s = shared_same (nat_eq (live_count own.table) own.table.capacity) s _ _ refl refl
+
+input_count : (entry : Entry) (from : Input) (own : Own) (s : Shared) → (input_made entry from own s).shared.deliveries ≡ s.deliveries
+input_count entry input.Shared own s = made_count entry None own s
 
 subscribe_count : (entry : Option Entry) (number : ℕ) (own : Own) (s : Shared) → (subscribe_at entry number own s).shared.deliveries ≡ s.deliveries
 subscribe_count None number own s = refl
@@ -213,8 +222,8 @@ drop_count None number own s = refl
 drop_count (Some entry) number own s = shared_same (has_children own.table number) s _ _ refl refl
 
 rule_count : (c : Call) (settings : Settings) (own : Own) (s : Shared) → (call_rule c settings own s).shared.deliveries ≡ s.deliveries
-rule_count call.GetStdin (record { input = input.Shared }) own s = made_count Reader None own s
-rule_count call.AsyncStdin (record { input = input.Shared }) own s = made_count (Polled None) None own s
+rule_count call.GetStdin settings own s = input_count Reader settings.input own s
+rule_count call.AsyncStdin settings own s = input_count (Polled None) settings.input own s
 rule_count (call.Read n size) settings own s = read_count (entry_at own n) size own s
 rule_count (call.Skip n size) settings own s = skip_count (entry_at own n) size own s
 rule_count (call.PollRead n room) settings own s = poll_count (entry_at own n) n room own s
