@@ -3,6 +3,7 @@ pub mod Reply
 pub mod Calls
 pub mod Host
 pub mod Run
+pub mod Codes
 pub mod Transcript
 pub mod Laws
 pub mod Steps

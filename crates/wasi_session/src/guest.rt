@@ -1,4 +1,4 @@
-ghost use Rattle.std.specs.Prelude.{◌≡◌, ◌≤◌, IfOk, OnErr};
+ghost use Rattle.std.specs.Prelude.{◌≡◌, ◌≤◌, IfOk, OnErr, true};
 ghost use Rattle.wasi_stdin.specs.Shared.{Shared};
 ghost use Rattle.wasi_host.specs.Reply.{ends};
 ghost use Rattle.wasi_host.specs.Calls.{exit_status, input_made, call_rule};
@@ -26,9 +26,13 @@ pub struct Guest {
 }
 
 impl Model for Guest {
+    ghost use Rattle.wasi_script.specs.contracts.lines.Input.{the_row as input_row};
     ghost use Rattle.wasi_host.specs.Host.{Guest};
+    ghost use Rattle.wasi_host.specs.Codes.{guest_code};
 
     ghost Value = { Guest };
+
+    ghost coded = { guest_code input_row.coded };
 
     ghost view = { λ g. record { settings = record { input = g.input }; own = g.own; was_called = g.was_called; ended = g.ended } };
 }

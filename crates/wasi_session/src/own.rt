@@ -20,8 +20,11 @@ pub struct Own {
 
 impl Model for Own {
     ghost use Rattle.wasi_host.specs.Calls.{Own};
+    ghost use Rattle.wasi_host.specs.Codes.{own_code};
 
     ghost Value = { Own };
+
+    ghost coded = { own_code };
 
     ghost view = { λ o. record { table = o.table } };
 }
@@ -119,8 +122,8 @@ impl Own {
             Err(trap) => return Ok(Reply::Trap(trap)),
         };
         match self.table.get_mut(found, Entry::POLLED) {
-            Ok(Entry::Polled(wait)) => polling(alloc, wait, room, core),
-            _ => unreachable!(),
+            Ok(entry) => polling(alloc, entry, room, core),
+            Err(_) => unreachable!(),
         }
     }
 
@@ -157,8 +160,8 @@ impl Own {
             Err(trap) => return Reply::Trap(trap),
         };
         match self.table.get_mut(found, Entry::POLLABLE) {
-            Ok(Entry::Pollable(wait)) => blocking(wait, core),
-            _ => unreachable!(),
+            Ok(entry) => blocking(entry, core),
+            Err(_) => unreachable!(),
         }
     }
 

@@ -47,9 +47,14 @@ pub struct World {
 
 impl Model for World {
     ghost use Rattle.std.specs.Prelude.{◌≡◌, ◌≤◌, length};
+    ghost use Rattle.wasi_stdin.specs.contracts.stdin_core.StdinCore.{the_row as core_row};
+    ghost use Rattle.wasi_script.specs.contracts.lines.Input.{the_row as input_row};
     ghost use Rattle.wasi_host.specs.Host.{Host};
+    ghost use Rattle.wasi_host.specs.Codes.{host_code};
 
     ghost Value = { Host };
+
+    ghost coded = { host_code core_row.coded input_row.coded };
 
     ghost view = { λ w. record { shared = w.core; guests = w.guests.items } };
 
