@@ -93,8 +93,8 @@ trap_line trap.WriteExceededBudget = tested (trap_text trap.WriteExceededBudget)
 trap_line trap.WriteWhileFlushPending = tested (trap_text trap.WriteWhileFlushPending) refl
 trap_line trap.ConcurrentReads = tested (trap_text trap.ConcurrentReads) refl
 trap_line trap.ConcurrentSkips = tested (trap_text trap.ConcurrentSkips) refl
-trap_line trap.ConcurrentWrites = tested (trap_text trap.ConcurrentWrites) refl
 trap_line trap.ConcurrentCheckWrites = tested (trap_text trap.ConcurrentCheckWrites) refl
+trap_line trap.ConcurrentWrites = tested (trap_text trap.ConcurrentWrites) refl
 trap_line trap.ConcurrentFlushes = tested (trap_text trap.ConcurrentFlushes) refl
 
 dash_or_hex : (bytes : List ℕ) → IsOneLine (hex_of bytes)
