@@ -7,7 +7,7 @@ use Rattle.wasi_script.specs.declared.lines.Input.{Input}
 use Rattle.wasi_host.specs.declared.entry.Entry.{Entry}
 use Rattle.wasi_host.specs.declared.entry.Entry.TheVariants.{Reader, Polled, Pollable}
 use Rattle.wasi_host.specs.Entry.{kind_of, wait_in}
-use Rattle.wasi_host.specs.Calls.{Settings, Own}
+use Rattle.wasi_host.specs.Calls.{Own}
 use Rattle.wasi_host.specs.Host.{Guest, Host}
 
 abbrev entry_from : ℕ → Option ℕ → Entry

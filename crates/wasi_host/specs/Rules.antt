@@ -244,8 +244,10 @@ module _ (input front : List ℕ) (shared : Shared) (guests : ℕ → Option Gue
     where
       full_is : is_full now g ≡ nat_eq (live_count guest.own.table) guest.own.table.capacity
       full_is = λ i. nat_eq (is.count i) (capacity_in (there i))
+
       after : Own
       after = record { table = with_pushed guest.own.table it parent }
+
       by : (full : Bool) → nat_eq (live_count guest.own.table) guest.own.table.capacity ≡ full → DoesCall c (cond full (only_reply (reply.Trap ResourceTableFull) guest.own shared) (record { reply = reply.Handle (next_number guest.own.table); own = record { table = with_pushed guest.own.table it parent }; shared = shared })) (λ answer s'. MakeRule full (standing_by it parent) now g answer s')
       by true e = still c (reply.Trap ResourceTableFull) _ refl (refl, refl)
       by false e = record {

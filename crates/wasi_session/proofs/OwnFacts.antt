@@ -1,12 +1,12 @@
 -- A number's entry written again as it was.
-use Rattle.std.proofs.Common.{◌≡◌, ℕ, Bool, true, false, cond, Option, Some, None, Result, Ok, Err, refl, ap, ◌∙◌, sym, subst}
+use Rattle.std.proofs.Common.{◌≡◌, ℕ, Bool, true, false, cond, Option, Some, None, Result, Ok, Err, refl, ap, ◌∙◌, sym}
 use Rattle.std.specs.Prelude.{eqb, OnErr}
-use Rattle.std.proofs.lemmas.Bool.{eqb-true, eq-eqb, cond-true}
+use Rattle.std.proofs.lemmas.Bool.{eqb-true}
 use Rattle.std.specs.Ordering.{nat_cmp}
 use Rattle.std.specs.Cmp.{nat_cmp_total}
 use Rattle.std.specs.FinMap as map
 use Rattle.std.specs.FinMap.{nat_cmp-IsAntisymmetric, same_map}
-use Rattle.wasi_table.specs.declared.error.TableError.TheVariants.{NotPresent, WrongType}
+use Rattle.wasi_table.specs.declared.error.TableError.TheVariants.{WrongType}
 use Rattle.wasi_table.specs.Table.{Table, Held, held_at, got, of_kind, with_entry, parent_in}
 use Rattle.wasi_table.specs.Laws.{held-insert}
 use Rattle.wasi_stdin.specs.Shared.{Shared}
