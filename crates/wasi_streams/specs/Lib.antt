@@ -1,0 +1,5 @@
+pub mod Answers
+pub mod MemoryPipes
+pub mod Files
+pub mod Pieces
+pub mod Outputs
