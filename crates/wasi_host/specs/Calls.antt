@@ -1,12 +1,15 @@
--- What each call replies, and what it leaves of its guest's own and of the shared input. A call sees its
--- guest's settings and never gives them back.
-use Rattle.std.specs.Prelude.{ℕ, cond, nat_eq, Option, Some, None}
+-- What each call replies, and what it leaves of its guest's own and of the input that the guest reads. No call
+-- sees more, and none gives back its guest's settings.
+use Rattle.std.specs.Prelude.{ℕ, Bool, true, cond, nat_eq, List, Option, Some, None, Result, Ok, Err}
+use Rattle.wasi_base.specs.declared.polled.Polled.{Polled as Poll}
+use Rattle.wasi_base.specs.declared.polled.Polled.TheVariants as polled
+use Rattle.wasi_base.specs.declared.stream_error.StreamError.{StreamError}
+use Rattle.wasi_base.specs.declared.stream_error.StreamError.TheVariants as error
 use Rattle.wasi_base.specs.declared.trap_text.TrapText.TheVariants.{ResourceNotPresent, ResourceWrongType, ResourceHasChildren, ResourceTableFull}
 use Rattle.wasi_table.specs.Table.{Table, held_at, entry_in, live_count, next_number, with_pushed, with_entry, without, has_children}
 use Rattle.wasi_stdin.specs.Shared.{Shared, Reading, Skipped, Polling, skipped, reading_of, after_read, poll_of, after_poll, wait_after_poll, is_ready, after_ready, block_of, after_block, wait_after_block}
 use Rattle.wasi_stdin.specs.Shared as shared
 use Rattle.wasi_script.specs.declared.lines.Input.{Input}
-use Rattle.wasi_script.specs.declared.lines.Input.TheVariants as input
 use Rattle.wasi_script.specs.declared.lines.Call.{Call}
 use Rattle.wasi_script.specs.declared.lines.Call.TheVariants as call
 use Rattle.wasi_script.specs.declared.lines.ExitStatus.{ExitStatus}
@@ -15,6 +18,8 @@ use Rattle.wasi_host.specs.declared.entry.Entry.{Entry}
 use Rattle.wasi_host.specs.declared.entry.Entry.TheVariants.{Reader, Polled, Pollable}
 use Rattle.wasi_host.specs.declared.reply.Reply.{Reply}
 use Rattle.wasi_host.specs.declared.reply.Reply.TheVariants as reply
+use Rattle.wasi_host.specs.declared.stream.Stream.{Stream}
+use Rattle.wasi_host.specs.Streams.{input_read, input_skip, input_poll_read, after_input_read}
 
 -- what configuration lines say of a guest
 pub record Settings : Type 0 where
@@ -24,40 +29,57 @@ pub record Settings : Type 0 where
 pub record Own : Type 0 where
   pub table : Table Entry
 
--- a call: its reply, and what it leaves
-pub record Called : Type 0 where
+-- a call: its reply, and what it leaves of its guest's own and of the input
+pub record Called (S : Type 0) : Type 0 where
   pub reply : Reply
   pub own : Own
-  pub shared : Shared
+  pub left : S
 
--- a call that changes nothing
-abbrev pub only_reply : Reply → Own → Shared → Called
-only_reply reply own shared = record { reply = reply; own = own; shared = shared }
+-- a call that reads nothing: its reply, and what it leaves of its guest's own
+pub record Owned : Type 0 where
+  pub reply : Reply
+  pub own : Own
+
+abbrev pub on_own : {S : Type 0} → Owned → S → Called S
+on_own done input = record { reply = done.reply; own = done.own; left = input }
+
+abbrev pub only_reply : Reply → Own → Owned
+only_reply reply own = record { reply = reply; own = own }
 
 abbrev pub entry_at : Own → ℕ → Option Entry
 entry_at own number = entry_in (held_at own.table number)
 
 -- a number that is not live, and one whose entry is of another kind
-abbrev pub absent : Own → Shared → Called
-absent own shared = only_reply (reply.Trap ResourceNotPresent) own shared
+abbrev pub absent : Own → Owned
+absent own = only_reply (reply.Trap ResourceNotPresent) own
 
-abbrev pub mistaken : Own → Shared → Called
-mistaken own shared = only_reply (reply.Trap ResourceWrongType) own shared
+abbrev pub mistaken : Own → Owned
+mistaken own = only_reply (reply.Trap ResourceWrongType) own
 
 -- a new entry has the number freed last, else the least never given
-abbrev pub made : Entry → Option ℕ → Own → Shared → Called
-made entry parent own shared =
+abbrev pub made : Entry → Option ℕ → Own → Owned
+made entry parent own =
     cond (nat_eq (live_count own.table) own.table.capacity)
-    (only_reply (reply.Trap ResourceTableFull) own shared)
-    (record { reply = reply.Handle (next_number own.table); own = record { table = with_pushed own.table entry parent }; shared = shared })
-
--- an entry on a guest's standard input
-abbrev pub input_made : Entry → Input → Own → Shared → Called
-input_made entry input.Shared own shared = made entry None own shared
+    (only_reply (reply.Trap ResourceTableFull) own)
+    (record { reply = reply.Handle (next_number own.table); own = record { table = with_pushed own.table entry parent } })
 
 -- another entry at a live number
 abbrev pub with_kept : Own → ℕ → Entry → Own
 with_kept own number entry = record { table = with_entry own.table number entry }
+
+-- ---- what an input answers to its readers, and what that leaves
+pub record Manner (S : Type 0) : Type 0 where
+  pub read : S → ℕ → Reply
+  pub skip : S → ℕ → Reply
+  pub after_read : S → ℕ → S
+  pub poll : S → Option ℕ → ℕ → Reply
+  pub after_poll : S → Option ℕ → ℕ → S
+  pub wait_after_poll : S → Option ℕ → ℕ → Option ℕ
+  pub ready : S → Bool
+  pub after_ready : S → S
+  pub block : S → Option ℕ → Bool
+  pub after_block : S → Option ℕ → S
+  pub wait_after_block : S → Option ℕ → Option ℕ
 
 abbrev pub reading_reply : Reading → Reply
 reading_reply (shared.Bytes bytes) = reply.Bytes bytes
@@ -74,75 +96,128 @@ polling_reply (shared.Polled bytes) = reply.Bytes bytes
 polling_reply shared.Pending = reply.Pending
 polling_reply (shared.PollFault kind) = reply.Failed kind
 
-abbrev pub read_at : Option Entry → ℕ → Own → Shared → Called
-read_at None size own shared = absent own shared
-read_at (Some Reader) size own shared = record { reply = reading_reply (reading_of shared size); own = own; shared = after_read shared size }
-read_at (Some (Polled wait)) size own shared = mistaken own shared
-read_at (Some (Pollable wait)) size own shared = mistaken own shared
+-- the shared input, by its table
+abbrev pub shared_manner : Manner Shared
+shared_manner = record {
+  read = λ s size. reading_reply (reading_of s size);
+  skip = λ s size. skipped_reply (skipped (reading_of s size));
+  after_read = after_read;
+  poll = λ s wait room. polling_reply (poll_of s wait room);
+  after_poll = after_poll;
+  wait_after_poll = wait_after_poll;
+  ready = is_ready;
+  after_ready = after_ready;
+  block = block_of;
+  after_block = after_block;
+  wait_after_block = wait_after_block;
+}
 
-abbrev pub skip_at : Option Entry → ℕ → Own → Shared → Called
-skip_at None size own shared = absent own shared
-skip_at (Some Reader) size own shared = record { reply = skipped_reply (skipped (reading_of shared size)); own = own; shared = after_read shared size }
-skip_at (Some (Polled wait)) size own shared = mistaken own shared
-skip_at (Some (Pollable wait)) size own shared = mistaken own shared
+-- No stream answers that memory is wanted; that answer is none of a definition's.
+abbrev pub error_reply : StreamError → Reply
+error_reply error.Closed = reply.Closed
+error_reply (error.LastOperationFailed kind) = reply.Failed kind
+error_reply (error.Trap text) = reply.Trap text
+error_reply error.OutOfMemory = reply.Pending
+
+abbrev pub bytes_reply : Result (List ℕ) StreamError → Reply
+bytes_reply (Ok bytes) = reply.Bytes bytes
+bytes_reply (Err it) = error_reply it
+
+abbrev pub count_reply : Result ℕ StreamError → Reply
+count_reply (Ok count) = reply.Count count
+count_reply (Err it) = error_reply it
+
+abbrev pub poll_reply : Poll (List ℕ) → Reply
+poll_reply polled.Pending = reply.Pending
+poll_reply (polled.Ready bytes) = reply.Bytes bytes
+poll_reply (polled.Failed kind) = reply.Failed kind
+
+-- a stream, whose pollables are always ready and which nobody waits for
+abbrev pub stream_manner : Manner Stream
+stream_manner = record {
+  read = λ s size. bytes_reply (input_read s size);
+  skip = λ s size. count_reply (input_skip s size);
+  after_read = after_input_read;
+  poll = λ s wait room. poll_reply (input_poll_read s room);
+  after_poll = λ s wait room. after_input_read s room;
+  wait_after_poll = λ s wait room. wait;
+  ready = λ s. true;
+  after_ready = λ s. s;
+  block = λ s wait. true;
+  after_block = λ s wait. s;
+  wait_after_block = λ s wait. wait;
+}
+
+-- ---- the calls on a number, by what stands at it
+abbrev pub read_at : {S : Type 0} → Manner S → Option Entry → ℕ → Own → S → Called S
+read_at m None size own s = on_own (absent own) s
+read_at m (Some Reader) size own s = record { reply = m.read s size; own = own; left = m.after_read s size }
+read_at m (Some (Polled wait)) size own s = on_own (mistaken own) s
+read_at m (Some (Pollable wait)) size own s = on_own (mistaken own) s
+
+abbrev pub skip_at : {S : Type 0} → Manner S → Option Entry → ℕ → Own → S → Called S
+skip_at m None size own s = on_own (absent own) s
+skip_at m (Some Reader) size own s = record { reply = m.skip s size; own = own; left = m.after_read s size }
+skip_at m (Some (Polled wait)) size own s = on_own (mistaken own) s
+skip_at m (Some (Pollable wait)) size own s = on_own (mistaken own) s
 
 -- a polled read keeps its wait in its entry
-abbrev pub poll_at : Option Entry → ℕ → ℕ → Own → Shared → Called
-poll_at None number room own shared = absent own shared
-poll_at (Some Reader) number room own shared = mistaken own shared
-poll_at (Some (Polled wait)) number room own shared = record {
-  reply = polling_reply (poll_of shared wait room);
-  own = with_kept own number (Polled (wait_after_poll shared wait room));
-  shared = after_poll shared wait room;
+abbrev pub poll_at : {S : Type 0} → Manner S → Option Entry → ℕ → ℕ → Own → S → Called S
+poll_at m None number room own s = on_own (absent own) s
+poll_at m (Some Reader) number room own s = on_own (mistaken own) s
+poll_at m (Some (Polled wait)) number room own s = record {
+  reply = m.poll s wait room;
+  own = with_kept own number (Polled (m.wait_after_poll s wait room));
+  left = m.after_poll s wait room;
 }
-poll_at (Some (Pollable wait)) number room own shared = mistaken own shared
+poll_at m (Some (Pollable wait)) number room own s = on_own (mistaken own) s
 
 -- a pollable is a child of its reader
-abbrev pub subscribe_at : Option Entry → ℕ → Own → Shared → Called
-subscribe_at None number own shared = absent own shared
-subscribe_at (Some Reader) number own shared = made (Pollable None) (Some number) own shared
-subscribe_at (Some (Polled wait)) number own shared = mistaken own shared
-subscribe_at (Some (Pollable wait)) number own shared = mistaken own shared
+abbrev pub subscribe_at : Option Entry → ℕ → Own → Owned
+subscribe_at None number own = absent own
+subscribe_at (Some Reader) number own = made (Pollable None) (Some number) own
+subscribe_at (Some (Polled wait)) number own = mistaken own
+subscribe_at (Some (Pollable wait)) number own = mistaken own
 
-abbrev pub ready_at : Option Entry → Own → Shared → Called
-ready_at None own shared = absent own shared
-ready_at (Some Reader) own shared = mistaken own shared
-ready_at (Some (Polled wait)) own shared = mistaken own shared
-ready_at (Some (Pollable wait)) own shared = record { reply = reply.Truth (is_ready shared); own = own; shared = after_ready shared }
+abbrev pub ready_at : {S : Type 0} → Manner S → Option Entry → Own → S → Called S
+ready_at m None own s = on_own (absent own) s
+ready_at m (Some Reader) own s = on_own (mistaken own) s
+ready_at m (Some (Polled wait)) own s = on_own (mistaken own) s
+ready_at m (Some (Pollable wait)) own s = record { reply = reply.Truth (m.ready s); own = own; left = m.after_ready s }
 
 -- a block keeps its wait in its entry
-abbrev pub block_at : Option Entry → ℕ → Own → Shared → Called
-block_at None number own shared = absent own shared
-block_at (Some Reader) number own shared = mistaken own shared
-block_at (Some (Polled wait)) number own shared = mistaken own shared
-block_at (Some (Pollable wait)) number own shared = record {
-  reply = reply.Truth (block_of shared wait);
-  own = with_kept own number (Pollable (wait_after_block shared wait));
-  shared = after_block shared wait;
+abbrev pub block_at : {S : Type 0} → Manner S → Option Entry → ℕ → Own → S → Called S
+block_at m None number own s = on_own (absent own) s
+block_at m (Some Reader) number own s = on_own (mistaken own) s
+block_at m (Some (Polled wait)) number own s = on_own (mistaken own) s
+block_at m (Some (Pollable wait)) number own s = record {
+  reply = reply.Truth (m.block s wait);
+  own = with_kept own number (Pollable (m.wait_after_block s wait));
+  left = m.after_block s wait;
 }
 
 -- an entry stays while it has children
-abbrev pub drop_at : Option Entry → ℕ → Own → Shared → Called
-drop_at None number own shared = absent own shared
-drop_at (Some entry) number own shared =
+abbrev pub drop_at : Option Entry → ℕ → Own → Owned
+drop_at None number own = absent own
+drop_at (Some entry) number own =
     cond (has_children own.table number)
-    (only_reply (reply.Trap ResourceHasChildren) own shared)
-    (record { reply = reply.Ok; own = record { table = without own.table number }; shared = shared })
+    (only_reply (reply.Trap ResourceHasChildren) own)
+    (record { reply = reply.Ok; own = record { table = without own.table number } })
 
 abbrev pub exit_status : ExitStatus → ℕ
 exit_status exit.Ok = 0
 exit_status exit.Err = 1
 
--- each call by its own rule
-abbrev pub call_rule : Call → Settings → Own → Shared → Called
-call_rule call.GetStdin settings own shared = input_made Reader settings.input own shared
-call_rule call.AsyncStdin settings own shared = input_made (Polled None) settings.input own shared
-call_rule (call.Read number size) settings own shared = read_at (entry_at own number) size own shared
-call_rule (call.Skip number size) settings own shared = skip_at (entry_at own number) size own shared
-call_rule (call.PollRead number room) settings own shared = poll_at (entry_at own number) number room own shared
-call_rule (call.Subscribe number) settings own shared = subscribe_at (entry_at own number) number own shared
-call_rule (call.Ready number) settings own shared = ready_at (entry_at own number) own shared
-call_rule (call.Block number) settings own shared = block_at (entry_at own number) number own shared
-call_rule (call.Drop number) settings own shared = drop_at (entry_at own number) number own shared
-call_rule (call.Exit status) settings own shared = only_reply (reply.Exit (exit_status status)) own shared
-call_rule (call.ExitCode code) settings own shared = only_reply (reply.Exit code) own shared
+-- each call by its own rule, on the input that its guest reads
+abbrev pub call_rule : {S : Type 0} → Manner S → Call → Own → S → Called S
+call_rule m call.GetStdin own s = on_own (made Reader None own) s
+call_rule m call.AsyncStdin own s = on_own (made (Polled None) None own) s
+call_rule m (call.Read number size) own s = read_at m (entry_at own number) size own s
+call_rule m (call.Skip number size) own s = skip_at m (entry_at own number) size own s
+call_rule m (call.PollRead number room) own s = poll_at m (entry_at own number) number room own s
+call_rule m (call.Subscribe number) own s = on_own (subscribe_at (entry_at own number) number own) s
+call_rule m (call.Ready number) own s = ready_at m (entry_at own number) own s
+call_rule m (call.Block number) own s = block_at m (entry_at own number) number own s
+call_rule m (call.Drop number) own s = on_own (drop_at (entry_at own number) number own) s
+call_rule m (call.Exit status) own s = on_own (only_reply (reply.Exit (exit_status status)) own) s
+call_rule m (call.ExitCode code) own s = on_own (only_reply (reply.Exit code) own) s

@@ -8,7 +8,8 @@ use Rattle.wasi_host.specs.declared.entry.Entry.{Entry}
 use Rattle.wasi_host.specs.declared.entry.Entry.TheVariants.{Reader, Polled, Pollable}
 use Rattle.wasi_host.specs.Entry.{kind_of, wait_in}
 use Rattle.wasi_host.specs.Calls.{Own}
-use Rattle.wasi_host.specs.Host.{Guest, Host}
+use Rattle.wasi_host.specs.declared.stream.Stream.{Stream}
+use Rattle.wasi_host.specs.Host.{Guest, Streams, Host}
 
 abbrev entry_from : ℕ → Option ℕ → Entry
 entry_from zero wait = Reader
@@ -33,9 +34,9 @@ guest_code input =
     (λ g. ((g.settings.input, g.own), (g.was_called, g.ended)))
     (λ p. record { settings = record { input = p.0.0 }; own = p.0.1; was_called = p.1.0; ended = p.1.1 }) (λ _. refl)
 
-abbrev pub host_code : Coded Shared → Coded Input → Coded Host
-host_code shared input =
-    code_by (Shared × List (Option Guest))
-    (coded× shared (coded_list (coded_option (guest_code input))))
-    (λ h. (h.shared, h.guests))
-    (λ p. record { shared = p.0; guests = p.1 }) (λ _. refl)
+abbrev pub host_code : Coded Shared → Coded Input → Coded Stream → Coded Host
+host_code shared input stream =
+    code_by ((Shared × List (Option Guest)) × Streams)
+    (coded× (coded× shared (coded_list (coded_option (guest_code input)))) (coded_list (coded× (coded_list coded_ℕ) stream)))
+    (λ h. ((h.shared, h.guests), h.streams))
+    (λ p. record { shared = p.0.0; guests = p.0.1; streams = p.1 }) (λ _. refl)

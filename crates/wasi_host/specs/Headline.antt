@@ -18,10 +18,10 @@ use Rattle.wasi_script.specs.Grammar.{AllStand, may_stand, no_names}
 use Rattle.wasi_table.specs.Table.{Held, held_at}
 use Rattle.wasi_host.specs.declared.entry.Entry.{Entry}
 use Rattle.wasi_host.specs.Host.{Guest, Host, Answered, new_guest, with_capacity, was_called_in, answer_in, names_of, new_host, given_for, size_read, step_reply, step_host, step_told, replies, host_end, told_end}
-use Rattle.wasi_host.specs.Run.{Standing, Sharing, Rule, IsRun, at_number, at_start, EndedRule}
+use Rattle.wasi_host.specs.Run.{Standing, Sharing, is_shared, Rule, IsRun, at_number, at_start, EndedRule}
 use Rattle.wasi_host.specs.Transcript.{ShowsRun, transcript, told_after_run}
 use Rattle.wasi_host.specs.Owned.{IsOwn, own_new}
-use Rattle.wasi_host.specs.Shown.{standing_of, standing_in, standing_with, ended_in, shown, cond_same, get_set, shown_put, nothing_stands, declare_same}
+use Rattle.wasi_host.specs.Shown.{standing_of, standing_where, standing_in, standing_with, shares_in, ended_in, shown, cond_same, get_set, shown_put, nothing_stands, declare_shown}
 use Rattle.wasi_host.specs.Rules.{IsGuest, OwnedBy, owned_put, Next, call_next, capture_next, deliver_next}
 use Rattle.wasi_host.specs.Steps.{names_step, names_new, places_step, within, first_of, second_of}
 use Rattle.wasi_host.specs.Lines.{are_lines}
@@ -54,8 +54,8 @@ pub record StepOn (input : List ℕ) (step : Line) (host : Host) (told : Told) (
   pub rule : Rule input (sharing input host told at) step (step_reply step host told) (sharing input (step_host step host told) (step_told step host told) next)
 
 -- a new guest
-new_owned : (from : Input) (live : FinSet nat_cmp) → live ≡ empty → IsGuest (new_guest from) live
-new_owned from live none = record { own = subst (λ live. IsOwn (new_guest from).own live) (sym none) (own_new 1024 (omega arith) (omega arith)); fresh = λ e. none }
+new_owned : (reads : Input) (live : FinSet nat_cmp) → live ≡ empty → IsGuest (new_guest reads) live
+new_owned reads live none = record { own = subst (λ live. IsOwn (new_guest reads).own live) (sym none) (own_new 1024 (omega arith) (omega arith)); fresh = λ e. none }
 
 -- a guest that was not called yet is given another capacity
 sized_owned : (capacity : ℕ) (guest : Guest) (live : FinSet nat_cmp) → 1 ≤ capacity → capacity ≤ 65536 → guest.was_called ≡ false → IsGuest guest live → IsGuest (with_capacity capacity guest) live
@@ -70,11 +70,16 @@ none_held (Some held) e = absurd (cc)
 nothing_yet : (guest : Guest) (live : FinSet nat_cmp) → IsGuest guest live → guest.was_called ≡ false → standing_in guest.own ≡ (λ n. None)
 nothing_yet guest live is uncalled = λ i n. none_held (held_at guest.own.table n) (sym (contains-empty nat_cmp n) ∙ ap (λ live. contains live n) (sym (is.fresh uncalled)) ∙ is.own.members n) i
 
+nothing_where : (b : Bool) (guest : Guest) (live : FinSet nat_cmp) → IsGuest guest live → guest.was_called ≡ false → standing_where b guest.own ≡ (λ n. None)
+nothing_where true guest live is uncalled = nothing_yet guest live is uncalled
+nothing_where false guest live is uncalled = refl
+
 sized_shown : (capacity : ℕ) (front : List ℕ) (shared : Shared) (guests : ℕ → Option Guest) (live : ℕ → FinSet nat_cmp) (told : Told) (n : ℕ) (guest : Guest) → guests n ≡ Some guest → guest.was_called ≡ false → IsGuest guest (live n) → shown front shared (at_number guests n (Some (with_capacity capacity guest))) live told ≡ record (shown front shared guests live told) { capacity = at_number (shown front shared guests live told).capacity n capacity }
 sized_shown capacity front shared guests live told n guest e uncalled is =
     shown_put front shared guests live told n (with_capacity capacity guest)
     ∙ (λ i. record (shown front shared guests live told) {
-      standing = λ g. cond_same {A = ℕ → Option Standing} (λ (m : ℕ). standing_with (guests m)) g n (standing_in (with_capacity capacity guest).own) (ap standing_with e ∙ nothing_yet guest (live n) is uncalled ∙ sym (nothing_stands capacity)) i;
+      standing = λ g. cond_same {A = ℕ → Option Standing} (λ (m : ℕ). standing_with (guests m)) g n (standing_with (Some (with_capacity capacity guest))) (ap standing_with e ∙ nothing_where (is_shared guest.settings.input) guest (live n) is uncalled ∙ sym (nothing_stands (is_shared guest.settings.input) capacity)) i;
+      shares = λ g. cond_same {A = Bool} (λ (m : ℕ). shares_in (guests m)) g n (is_shared guest.settings.input) (ap shares_in e) i;
       capacity = at_number (shown front shared guests live told).capacity n capacity;
       ended = λ g. cond_same {A = Bool} (λ (m : ℕ). ended_in (guests m)) g n guest.ended (ap ended_in e) i;
     })
@@ -83,10 +88,10 @@ sized_shown capacity front shared guests live told n guest e uncalled is =
 abbrev CallNext : List ℕ → List ℕ → (ℕ → FinSet nat_cmp) → Host → Told → ℕ → Call → Bool → Answered → Type 0
 CallNext input front live host told n c ended done = Next input front host.shared (guests_of host.guests) live told (λ s s'. EndedRule ended c input s n done.reply s') done.shared (at_number (guests_of host.guests) n (Some done.guest)) told
 
-call_next_in : (o : Option Guest) (input : List ℕ) (n : ℕ) (c : Call) (host : Host) (told : Told) (at : At input host told) → guests_of host.guests n ≡ o → is_some o ≡ true → CallNext input at.front at.live host told n c (ended_in o) (answer_in c o host.shared)
+call_next_in : (o : Option Guest) (input : List ℕ) (n : ℕ) (c : Call) (host : Host) (told : Told) (at : At input host told) → guests_of host.guests n ≡ o → is_some o ≡ true → CallNext input at.front at.live host told n c (ended_in o) (answer_in c o host.shared host.streams)
 call_next_in None input n c host told at e some = absurd (cc)
 call_next_in (Some guest) input n c host told at e some =
-    call_next guest.ended c input at.front host.shared (guests_of host.guests) at.live told n guest refl e (subst (λ o. OwnedBy o (at.live n)) e (at.owned n)) at.owned at.sound at.input_is
+    call_next guest.ended c input at.front host.shared (guests_of host.guests) at.live told n guest host.streams refl e (subst (λ o. OwnedBy o (at.live n)) e (at.owned n)) at.owned at.sound at.input_is
 
 -- another guest in one place, whose numbers are those
 owned_again : (guests guests' : ℕ → Option Guest) (live : ℕ → FinSet nat_cmp) (n : ℕ) (it : Option Guest) → guests' ≡ at_number guests n it → ((m : ℕ) → OwnedBy (guests m) (live m)) → OwnedBy it (live n) → (m : ℕ) → OwnedBy (guests' m) (live m)
@@ -124,10 +129,12 @@ sized_on input n capacity host told at (Some guest) e fits =
     }
 
 pub step_on : (input : List ℕ) (step : Line) (host : Host) (told : Told) (at : At input host told) → may_stand (names_of host) step ≡ true → StepOn input step host told at
-step_on input (line.Guest n from) host told at fits =
+step_on input (line.Pipe name bytes) host told at fits = record { next = record { front = at.front; live = at.live; input_is = at.input_is; sound = at.sound; owned = at.owned; places = at.places }; rule = (refl, refl) }
+step_on input (line.InFile name bytes plan) host told at fits = record { next = record { front = at.front; live = at.live; input_is = at.input_is; sound = at.sound; owned = at.owned; places = at.places }; rule = (refl, refl) }
+step_on input (line.Guest n reads) host told at fits =
     let below : n < length host.guests = rw at.places (grind (arith, nat_tests, fits)) in
     let new : guests_of host.guests n ≡ None = none_of (guests_of host.guests n) (grind (arith, nat_tests, fits)) in
-    let put = guests_set host.guests n (new_guest from) below in
+    let put = guests_set host.guests n (new_guest reads) below in
     let none : at.live n ≡ empty = subst (λ o. OwnedBy o (at.live n)) new (at.owned n) in
     record {
       next = record {
@@ -135,14 +142,14 @@ step_on input (line.Guest n from) host told at fits =
         live = at.live;
         input_is = at.input_is;
         sound = at.sound;
-        owned = λ m. owned_again (guests_of host.guests) (guests_of (set host.guests n (Some (new_guest from)))) at.live n (Some (new_guest from)) put at.owned (new_owned from (at.live n) none) m;
-        places = places_step (line.Guest n from) host given.End ∙ at.places;
+        owned = λ m. owned_again (guests_of host.guests) (guests_of (set host.guests n (Some (new_guest reads)))) at.live n (Some (new_guest reads)) put at.owned (new_owned reads (at.live n) none) m;
+        places = places_step (line.Guest n reads) host given.End ∙ at.places;
       };
-      rule = (refl, ap (λ guests. shown at.front host.shared guests at.live told) put ∙ declare_same at.front host.shared (guests_of host.guests) at.live told n from new);
+      rule = (refl, ap (λ guests. shown at.front host.shared guests at.live told) put ∙ declare_shown at.front host.shared (guests_of host.guests) at.live told n reads new);
     }
 step_on input (line.Capacity n capacity) host told at fits = sized_on input n capacity host told at (guests_of host.guests n) refl fits
 step_on input (line.Call n c) host told at fits =
-    let done = answer_in c (guests_of host.guests n) host.shared in
+    let done = answer_in c (guests_of host.guests n) host.shared host.streams in
     let next = call_next_in (guests_of host.guests n) input n c host told at refl fits in
     let below : n < length host.guests = within host.guests n fits in
     let put = guests_set host.guests n done.guest below in

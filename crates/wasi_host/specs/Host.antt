@@ -1,6 +1,8 @@
 -- The host of a session: what each step replies, and what it leaves.
-use Rattle.std.specs.Prelude.{◌≡◌, ℕ, Bool, true, false, cond, List, [], ◌∷◌, get_or, set, Option, Some, None, MatchOption, is_some, replicate}
+use Rattle.std.specs.Prelude.{◌≡◌, ℕ, Bool, true, false, cond, List, [], ◌∷◌, ◌++◌, map, get_or, set, Option, Some, None, MatchOption, is_some, replicate}
 use Rattle.std.specs.Option.{option_map}
+use Rattle.std.specs.Str.{bytes_eq}
+use Rattle.std.specs.Map.{lookup, set_value}
 use Rattle.wasi_base.specs.Source.{Told, Given, Gives, gives, told_after}
 use Rattle.wasi_base.specs.Source as given
 use Rattle.wasi_table.specs.Table.{new_table}
@@ -14,10 +16,14 @@ use Rattle.wasi_script.specs.declared.lines.Line.{Line}
 use Rattle.wasi_script.specs.declared.lines.Line.TheVariants as line
 use Rattle.wasi_script.specs.declared.lines.Call.{Call}
 use Rattle.wasi_script.specs.Grammar.{Names, may_stand}
+use Rattle.wasi_script.specs.declared.streams.Direction.{Direction}
+use Rattle.wasi_script.specs.declared.streams.Direction.TheVariants.{Inward}
 use Rattle.wasi_host.specs.declared.reply.Reply.{Reply}
 use Rattle.wasi_host.specs.declared.reply.Reply.TheVariants as reply
 use Rattle.wasi_host.specs.Reply.{ends}
-use Rattle.wasi_host.specs.Calls.{Settings, Own, Called, call_rule}
+use Rattle.wasi_host.specs.declared.stream.Stream.{Stream}
+use Rattle.wasi_host.specs.declared.stream.Stream.TheVariants as stream
+use Rattle.wasi_host.specs.Calls.{Settings, Own, Called, shared_manner, stream_manner, call_rule}
 
 -- a guest: what configuration lines say of it, what it owns, and whether it was called and whether it ended
 pub record Guest : Type 0 where
@@ -33,49 +39,84 @@ new_guest input = record { settings = record { input = input }; own = record { t
 abbrev pub with_capacity : ℕ → Guest → Guest
 with_capacity capacity guest = record { settings = guest.settings; own = record { table = new_table capacity }; was_called = guest.was_called; ended = guest.ended }
 
--- the shared input, and the guests by their numbers
+-- the declared streams with their names, in order of declaration
+abbrev pub Streams : Type 0
+Streams = List (List ℕ × Stream)
+
+abbrev pub or_closed : Option Stream → Stream
+or_closed None = stream.Closed
+or_closed (Some it) = it
+
+-- the stream of a name, taken out, and what a call left of it, put back
+abbrev pub stream_of : List ℕ → Streams → Stream
+stream_of name streams = or_closed (lookup (bytes_eq name) streams)
+
+abbrev pub put_stream : List ℕ → Stream → Streams → Streams
+put_stream name it streams = set_value (bytes_eq name) streams it
+
+abbrev pub direction_of : Stream → Direction
+direction_of stream.Closed = Inward
+direction_of (stream.Pipe left) = Inward
+direction_of (stream.InFile told) = Inward
+
+-- the shared input, the guests by their numbers, and the streams
 pub record Host : Type 0 where
   pub shared : Shared
   pub guests : List (Option Guest)
+  pub streams : Streams
 
 abbrev pub new_host : Host
-new_host = record { shared = record { mode = mode.Idle; held = []; captured = None; deliveries = 0 }; guests = replicate 64 None }
+new_host = record { shared = record { mode = mode.Idle; held = []; captured = None; deliveries = 0 }; guests = replicate 64 None; streams = [] }
 
--- the answer to a call, with what becomes of its guest and of the shared input
+-- the answer to a call, with what becomes of its guest, of the shared input and of the streams
 pub record Answered : Type 0 where
   pub reply : Reply
   pub guest : Guest
   pub shared : Shared
+  pub streams : Streams
 
 -- a guest that ends owns no entries any more
 abbrev pub left_own : Reply → Own → Own
 left_own reply own = cond (ends reply) (record { table = new_table own.table.capacity }) own
 
-abbrev pub settled : Guest → Called → Answered
-settled guest done = record {
-  reply = done.reply;
-  guest = record { settings = guest.settings; own = left_own done.reply done.own; was_called = true; ended = ends done.reply };
-  shared = done.shared;
-}
+abbrev pub left_guest : Guest → Reply → Own → Guest
+left_guest guest reply own = record { settings = guest.settings; own = left_own reply own; was_called = true; ended = ends reply }
+
+-- a call on the shared input, and one on a stream or a closed input
+abbrev pub answer_shared : Guest → Called Shared → Streams → Answered
+answer_shared guest done streams = record { reply = done.reply; guest = left_guest guest done.reply done.own; shared = done.left; streams = streams }
+
+abbrev pub answer_stream : Guest → Called Stream → Shared → Streams → Answered
+answer_stream guest done shared streams = record { reply = done.reply; guest = left_guest guest done.reply done.own; shared = shared; streams = streams }
+
+-- by where the guest's standard input comes from
+abbrev pub answer_from : Input → Call → Guest → Shared → Streams → Answered
+answer_from input.Shared call guest shared streams = answer_shared guest (call_rule shared_manner call guest.own shared) streams
+answer_from input.Empty call guest shared streams = answer_stream guest (call_rule stream_manner call guest.own stream.Closed) shared streams
+answer_from input.Closed call guest shared streams = answer_stream guest (call_rule stream_manner call guest.own stream.Closed) shared streams
+answer_from (input.Named name) call guest shared streams = let done = call_rule stream_manner call guest.own (stream_of name streams) in answer_stream guest done shared (put_stream name done.left streams)
 
 -- a guest that ended is told so, and nothing else happens
-abbrev pub answer_by : Bool → Call → Guest → Shared → Answered
-answer_by true call guest shared = record { reply = reply.Ended; guest = record { settings = guest.settings; own = guest.own; was_called = true; ended = guest.ended }; shared = shared }
-answer_by false call guest shared = settled guest (call_rule call guest.settings guest.own shared)
+abbrev pub answer_by : Bool → Call → Guest → Shared → Streams → Answered
+answer_by true call guest shared streams = record { reply = reply.Ended; guest = record { settings = guest.settings; own = guest.own; was_called = true; ended = guest.ended }; shared = shared; streams = streams }
+answer_by false call guest shared streams = answer_from guest.settings.input call guest shared streams
 
-abbrev pub answer_to : Call → Guest → Shared → Answered
-answer_to call guest shared = answer_by guest.ended call guest shared
+abbrev pub answer_to : Call → Guest → Shared → Streams → Answered
+answer_to call guest shared streams = answer_by guest.ended call guest shared streams
 
 -- a guest, taken out of the host and put back
 abbrev pub guest_of : Host → ℕ → Option Guest
 guest_of host guest = get_or host.guests guest None
 
 abbrev pub put_answered : Host → ℕ → Answered → Host
-put_answered host guest done = record { shared = done.shared; guests = set host.guests guest (Some done.guest) }
+put_answered host guest done = record { shared = done.shared; guests = set host.guests guest (Some done.guest); streams = done.streams }
 
-abbrev pub answer_in : Call → Option Guest → Shared → Answered
-answer_in call None shared = record { reply = reply.Ended; guest = new_guest input.Shared; shared = shared }
-answer_in call (Some guest) shared = answer_to call guest shared
+abbrev pub answer_in : Call → Option Guest → Shared → Streams → Answered
+answer_in call None shared streams = record { reply = reply.Ended; guest = new_guest input.Shared; shared = shared; streams = streams }
+answer_in call (Some guest) shared streams = answer_to call guest shared streams
+
+abbrev pub with_stream : List ℕ → Stream → Host → Host
+with_stream name it host = record { shared = host.shared; guests = host.guests; streams = host.streams ++ (name, it) ∷ [] }
 
 abbrev pub capture_reply : Option ℕ → Reply
 capture_reply None = reply.Idle
@@ -96,23 +137,29 @@ after_delivery (Some size) shared given = delivered shared given
 
 -- the reply to a step, and the host after it; a delivery gives `given`
 abbrev pub reply_to : Line → Host → Given → Reply
+reply_to (line.Pipe name bytes) host given = reply.Ok
+reply_to (line.InFile name bytes plan) host given = reply.Ok
 reply_to (line.Guest guest input) host given = reply.Ok
 reply_to (line.Capacity guest capacity) host given = reply.Ok
-reply_to (line.Call guest call) host given = (answer_in call (guest_of host guest) host.shared).reply
+reply_to (line.Call guest call) host given = (answer_in call (guest_of host guest) host.shared host.streams).reply
 reply_to line.Capture host given = capture_reply (capture_of host.shared)
 reply_to line.Deliver host given = delivery_reply host.shared.captured given
 
 abbrev pub host_after : Line → Host → Given → Host
-host_after (line.Guest guest input) host given = record { shared = host.shared; guests = set host.guests guest (Some (new_guest input)) }
-host_after (line.Capacity guest capacity) host given = record { shared = host.shared; guests = set host.guests guest (option_map (with_capacity capacity) (guest_of host guest)) }
-host_after (line.Call guest call) host given = put_answered host guest (answer_in call (guest_of host guest) host.shared)
-host_after line.Capture host given = record { shared = after_capture host.shared; guests = host.guests }
-host_after line.Deliver host given = record { shared = after_delivery host.shared.captured host.shared given; guests = host.guests }
+host_after (line.Pipe name bytes) host given = with_stream name (stream.Pipe bytes) host
+host_after (line.InFile name bytes plan) host given = with_stream name (stream.InFile (record { left = bytes; plan = plan })) host
+host_after (line.Guest guest input) host given = record { shared = host.shared; guests = set host.guests guest (Some (new_guest input)); streams = host.streams }
+host_after (line.Capacity guest capacity) host given = record { shared = host.shared; guests = set host.guests guest (option_map (with_capacity capacity) (guest_of host guest)); streams = host.streams }
+host_after (line.Call guest call) host given = put_answered host guest (answer_in call (guest_of host guest) host.shared host.streams)
+host_after line.Capture host given = record { shared = after_capture host.shared; guests = host.guests; streams = host.streams }
+host_after line.Deliver host given = record { shared = after_delivery host.shared.captured host.shared given; guests = host.guests; streams = host.streams }
 
 -- the size that a step reads from the source, if it reads
 abbrev pub size_read : Line → Host → Option ℕ
 size_read line.Deliver host = host.shared.captured
 size_read line.Capture host = None
+size_read (line.Pipe name bytes) host = None
+size_read (line.InFile name bytes plan) host = None
 size_read (line.Guest guest input) host = None
 size_read (line.Capacity guest capacity) host = None
 size_read (line.Call guest call) host = None
@@ -160,7 +207,7 @@ was_called_in None = false
 was_called_in (Some guest) = guest.was_called
 
 abbrev pub names_of : Host → Names
-names_of host = record { is_guest = λ guest. is_some (guest_of host guest); was_called = λ guest. was_called_in (guest_of host guest) }
+names_of host = record { is_guest = λ guest. is_some (guest_of host guest); was_called = λ guest. was_called_in (guest_of host guest); streams = map (λ row. (row.0, direction_of row.1)) host.streams }
 
 -- a step may stand after what the host holds
 abbrev pub Fits : Line → Host → Type 0

@@ -1,5 +1,7 @@
+pub mod Piece
 pub mod Entry
 pub mod Reply
+pub mod Streams
 pub mod Calls
 pub mod Host
 pub mod Run

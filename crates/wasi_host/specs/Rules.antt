@@ -1,5 +1,5 @@
 -- The host follows the run's rules: one lemma a rule.
-use Rattle.std.proofs.Common.{◌≡◌, ℕ, zero, suc, ◌+◌, ◌<◌, min, max, Bool, true, false, cond, not, List, [], ◌∷◌, ◌++◌, length, Option, Some, None, refl, ap, arith, ◌∙◌, sym, subst, take-append-drop, true≢false}
+use Rattle.std.proofs.Common.{◌≡◌, ℕ, zero, suc, ◌+◌, ◌<◌, min, max, Bool, true, false, cond, not, List, [], ◌∷◌, ◌++◌, length, Option, Some, None, Result, Ok, Err, refl, ap, arith, ◌∙◌, sym, subst, take-append-drop, true≢false}
 use Rattle.std.specs.Prelude.{eqb, nat_eq, nat_lt, is_some}
 use Rattle.std.proofs.Common.{inl, inr}
 use Rattle.std.specs.Option.{option_map}
@@ -7,6 +7,10 @@ use Rattle.std.specs.Ordering.{nat_cmp}
 use Rattle.std.specs.FinSet.{FinSet, empty}
 use Rattle.std.proofs.lemmas.Bool.{cond-true}
 use Rattle.std.proofs.lemmas.Grind.{common_steps}
+use Rattle.wasi_base.specs.declared.polled.Polled.{Polled as Poll}
+use Rattle.wasi_base.specs.declared.polled.Polled.TheVariants as poll
+use Rattle.wasi_base.specs.declared.stream_error.StreamError.{StreamError}
+use Rattle.wasi_base.specs.declared.stream_error.StreamError.TheVariants as failure
 use Rattle.wasi_base.specs.declared.source.Plan.{Plan}
 use Rattle.wasi_base.specs.declared.source.Plan.TheVariants.{Take, Fail}
 use Rattle.wasi_base.specs.declared.trap_text.TrapText.TheVariants.{ResourceNotPresent, ResourceWrongType, ResourceHasChildren, ResourceTableFull}
@@ -30,12 +34,15 @@ use Rattle.wasi_host.specs.declared.entry.Entry.TheVariants as entry
 use Rattle.wasi_host.specs.declared.reply.Reply.{Reply}
 use Rattle.wasi_host.specs.declared.reply.Reply.TheVariants as reply
 use Rattle.wasi_host.specs.Reply.{ends}
-use Rattle.wasi_host.specs.Calls.{Own, Called, only_reply, entry_at, made, input_made, with_kept, read_at, skip_at, poll_at, subscribe_at, ready_at, block_at, drop_at, call_rule, reading_reply, skipped_reply, polling_reply}
-use Rattle.wasi_host.specs.Host.{Guest, Answered, answer_by, capture_reply, outcome_reply, delivery_reply, after_delivery, given_for, told_for}
-use Rattle.wasi_host.specs.Run.{Standing, Sharing, Rule, at_number, with_standing, without_standing, without_guest, held_count, after_row, ReadRule, SkipRule, counted, is_over, PollRow, ready_row, after_ready_row, ReadyRule, block_row, BlockRow, BlockRule, MakeRule, is_full, HasPollable, DropReader, ReadAt, SkipAt, PollAt, SubscribeAt, ReadyAt, BlockAt, DropAt, CallRule, live_after, left_by, EndedRule, size_captured, CaptureRule, delivery_row, delivery_answer, delivered_row, DeliverRule}
+use Rattle.wasi_host.specs.declared.stream.Stream.{Stream}
+use Rattle.wasi_host.specs.declared.stream.Stream.TheVariants as none
+use Rattle.wasi_host.specs.Streams.{input_read, input_skip, input_poll_read, after_input_read}
+use Rattle.wasi_host.specs.Calls.{Own, Called, on_own, only_reply, entry_at, made, with_kept, shared_manner, stream_manner, read_at, skip_at, poll_at, subscribe_at, ready_at, block_at, drop_at, exit_status, call_rule, reading_reply, skipped_reply, polling_reply, bytes_reply, count_reply, poll_reply}
+use Rattle.wasi_host.specs.Host.{Guest, Streams, stream_of, put_stream, Answered, answer_shared, answer_stream, answer_from, answer_by, capture_reply, outcome_reply, delivery_reply, after_delivery, given_for, told_for}
+use Rattle.wasi_host.specs.Run.{Standing, Sharing, Rule, at_number, with_standing, without_standing, without_guest, held_count, after_row, ReadRule, SkipRule, counted, is_over, PollRow, ready_row, after_ready_row, ReadyRule, block_row, BlockRow, BlockRule, MakeRule, is_full, HasPollable, DropReader, ReadAt, SkipAt, PollAt, SubscribeAt, ReadyAt, BlockAt, DropAt, CallRule, live_after, left_by, AskedRule, EndedRule, is_shared, size_captured, CaptureRule, delivery_row, delivery_answer, delivered_row, DeliverRule}
 use Rattle.wasi_host.specs.Run as run
 use Rattle.wasi_host.specs.Owned.{IsParented, IsOwn, own_pushed, own_kept, own_dropped, own_left}
-use Rattle.wasi_host.specs.Shown.{parent_or, standing_by, standing_of, standing_in, standing_with, capacity_in, ended_in, shown, cond_same, with_own, put_alike, put_same, put_standing, put_none, nothing_stands, asked_none, row_next}
+use Rattle.wasi_host.specs.Shown.{parent_or, standing_by, standing_of, standing_in, standing_where, standing_with, shares_in, capacity_in, ended_in, shown, cond_same, with_own, put_alike, put_same, put_unshared, stands_there, put_standing, put_none, nothing_stands, asked_none, row_next}
 
 cond_map : {A B : Type 0} (f : A → B) (b : Bool) (x y : A) → f (cond b x y) ≡ cond b (f x) (f y)
 cond_map f true x y = refl
@@ -92,13 +99,13 @@ standing_dropped own n m =
 
 -- ---- a call of one guest
 -- what the call comes to: what is handed out then, and the rule that the reply and what is left follow
-pub record Does (input : List ℕ) (shared : Shared) (guests : ℕ → Option Guest) (live : ℕ → FinSet nat_cmp) (told : Told) (g : ℕ) (guest : Guest) (c : Call) (done : Called) (R : Reply → Sharing → Type 0) : Type 0 where
+pub record Does (input : List ℕ) (shared : Shared) (guests : ℕ → Option Guest) (live : ℕ → FinSet nat_cmp) (told : Told) (g : ℕ) (guest : Guest) (c : Call) (done : Called Shared) (R : Reply → Sharing → Type 0) : Type 0 where
   pub front : List ℕ
-  pub input_is : input ≡ front ++ (done.shared.held ++ told.left)
-  pub sound : IsSound done.shared
+  pub input_is : input ≡ front ++ (done.left.held ++ told.left)
+  pub sound : IsSound done.left
   pub owned : IsOwn done.own (live_after c done.reply (live g))
   pub capacity : done.own.table.capacity ≡ guest.own.table.capacity
-  pub rule : R done.reply (shown front done.shared (at_number guests g (Some (with_own guest done.own))) live told)
+  pub rule : R done.reply (shown front done.left (at_number guests g (Some (with_own guest done.own))) live told)
 
 ready_state : (m : Mode) (front : List ℕ) (shared : Shared) (guests : ℕ → Option Guest) (live : ℕ → FinSet nat_cmp) (told : Told) → shared.mode ≡ m → shown front (record { mode = asked_by_ready m; held = shared.held; captured = shared.captured; deliveries = shared.deliveries }) guests live told ≡ after_ready_row m (shown front shared guests live told)
 ready_state Idle front shared guests live told is = refl
@@ -121,15 +128,15 @@ no_reader wait e = cc
 no_reader_either : (wait : Option ℕ) → entry.Pollable wait ≡ entry.Reader → ⊥
 no_reader_either wait e = cc
 
-module _ (input front : List ℕ) (shared : Shared) (guests : ℕ → Option Guest) (live : ℕ → FinSet nat_cmp) (told : Told) (g : ℕ) (guest : Guest) (there : guests g ≡ Some guest) (is : IsOwn guest.own (live g)) (sound : IsSound shared) (input_is : input ≡ front ++ (shared.held ++ told.left)) where
+module _ (input front : List ℕ) (shared : Shared) (guests : ℕ → Option Guest) (live : ℕ → FinSet nat_cmp) (told : Told) (g : ℕ) (guest : Guest) (there : guests g ≡ Some guest) (sharing : is_shared guest.settings.input ≡ true) (is : IsOwn guest.own (live g)) (sound : IsSound shared) (input_is : input ≡ front ++ (shared.held ++ told.left)) where
   abbrev now : Sharing
   now = shown front shared guests live told
 
-  abbrev DoesCall : Call → Called → (Reply → Sharing → Type 0) → Type 0
+  abbrev DoesCall : Call → Called Shared → (Reply → Sharing → Type 0) → Type 0
   DoesCall c done R = Does input shared guests live told g guest c done R
 
   -- a call that changes nothing
-  still : (c : Call) (answer : Reply) (R : Reply → Sharing → Type 0) → live_after c answer (live g) ≡ live g → R answer now → DoesCall c (only_reply answer guest.own shared) R
+  still : (c : Call) (answer : Reply) (R : Reply → Sharing → Type 0) → live_after c answer (live g) ≡ live g → R answer now → DoesCall c (on_own (only_reply answer guest.own) shared) R
   still c answer R same holds = record {
     front = front;
     input_is = input_is;
@@ -140,8 +147,8 @@ module _ (input front : List ℕ) (shared : Shared) (guests : ℕ → Option Gue
   }
 
   -- ---- reads and skips
-  abbrev read_called : ℕ → Reply → Called
-  read_called size answer = record { reply = answer; own = guest.own; shared = after_read shared size }
+  abbrev read_called : ℕ → Reply → Called Shared
+  read_called size answer = record { reply = answer; own = guest.own; left = after_read shared size }
 
   reads : (c : Call) (size : ℕ) (answer : Reply) (R : Reply → Sharing → Type 0) → live_after c answer (live g) ≡ live g → ((s' : Sharing) → ReadRule input now size (reading_reply (reading_of shared size)) s' → R answer s') → DoesCall c (read_called size answer) R
   reads c zero answer R same follows = record {
@@ -163,20 +170,20 @@ module _ (input front : List ℕ) (shared : Shared) (guests : ℕ → Option Gue
         rule = follows _ (next.read guests live, put_same next.front' (after_read shared (suc n)) guests live told g guest there ∙ next.state guests live);
       }
 
-  read_does : (n size : ℕ) (o : Option (Row Entry)) → DoesCall (call.Read n size) (read_at (entry_in o) size guest.own shared) (λ answer s'. ReadAt (option_map standing_of o) input now size answer s')
+  read_does : (n size : ℕ) (o : Option (Row Entry)) → DoesCall (call.Read n size) (read_at shared_manner (entry_in o) size guest.own shared) (λ answer s'. ReadAt (option_map standing_of o) input now size answer s')
   read_does n size None = still (call.Read n size) (reply.Trap ResourceNotPresent) _ refl refl
   read_does n size (Some held) = by held.entry held.parent
     where
-      by : (it : Entry) (parent : Option ℕ) → DoesCall (call.Read n size) (read_at (Some it) size guest.own shared) (λ answer s'. ReadAt (Some (standing_by it parent)) input now size answer s')
+      by : (it : Entry) (parent : Option ℕ) → DoesCall (call.Read n size) (read_at shared_manner (Some it) size guest.own shared) (λ answer s'. ReadAt (Some (standing_by it parent)) input now size answer s')
       by entry.Reader parent = reads (call.Read n size) size (reading_reply (reading_of shared size)) _ (reading_live (call.Read n size) (reading_of shared size) (live g)) (λ s' rule. rule)
       by (entry.Polled wait) parent = still (call.Read n size) (reply.Trap ResourceWrongType) _ refl refl
       by (entry.Pollable wait) parent = still (call.Read n size) (reply.Trap ResourceWrongType) _ refl refl
 
-  skip_does : (n size : ℕ) (o : Option (Row Entry)) → DoesCall (call.Skip n size) (skip_at (entry_in o) size guest.own shared) (λ answer s'. SkipAt (option_map standing_of o) input now size answer s')
+  skip_does : (n size : ℕ) (o : Option (Row Entry)) → DoesCall (call.Skip n size) (skip_at shared_manner (entry_in o) size guest.own shared) (λ answer s'. SkipAt (option_map standing_of o) input now size answer s')
   skip_does n size None = still (call.Skip n size) (reply.Trap ResourceNotPresent) _ refl refl
   skip_does n size (Some held) = by held.entry held.parent
     where
-      by : (it : Entry) (parent : Option ℕ) → DoesCall (call.Skip n size) (skip_at (Some it) size guest.own shared) (λ answer s'. SkipAt (Some (standing_by it parent)) input now size answer s')
+      by : (it : Entry) (parent : Option ℕ) → DoesCall (call.Skip n size) (skip_at shared_manner (Some it) size guest.own shared) (λ answer s'. SkipAt (Some (standing_by it parent)) input now size answer s')
       by entry.Reader parent = reads (call.Skip n size) size (skipped_reply (skipped (reading_of shared size))) _ (skipped_live (call.Skip n size) (reading_of shared size) (live g)) (λ s' rule. (reading_reply (reading_of shared size), rule, counted_is (reading_of shared size)))
       by (entry.Polled wait) parent = still (call.Skip n size) (reply.Trap ResourceWrongType) _ refl refl
       by (entry.Pollable wait) parent = still (call.Skip n size) (reply.Trap ResourceWrongType) _ refl refl
@@ -186,14 +193,16 @@ module _ (input front : List ℕ) (shared : Shared) (guests : ℕ → Option Gue
   kept_alike : (n : ℕ) (it : Entry) (parent : Option ℕ) → held_at guest.own.table n ≡ Some (record { entry = it; parent = parent }) → shown front shared (at_number guests g (Some (with_own guest (with_kept guest.own n it)))) live told ≡ now
   kept_alike n it parent held =
       put_alike front shared guests live told g guest (with_kept guest.own n it) there
-      (λ i m. (standing_kept guest.own n it parent m (ap parent_in held) ∙ cond_same (standing_in guest.own) m n (Some (standing_by it parent)) (ap (option_map standing_of) held)) i)
+      (ap (λ b. standing_where b (with_kept guest.own n it)) sharing
+      ∙ (λ i m. (standing_kept guest.own n it parent m (ap parent_in held) ∙ cond_same (standing_in guest.own) m n (Some (standing_by it parent)) (ap (option_map standing_of) held)) i)
+      ∙ sym (ap (λ b. standing_where b guest.own) sharing))
       refl
 
-  abbrev polled_called : Bool → Option ℕ → ℕ → ℕ → Called
+  abbrev polled_called : Bool → Option ℕ → ℕ → ℕ → Called Shared
   polled_called waiting wait n room = record {
     reply = polling_reply (cond waiting stdin.Pending (polling (meeting_of shared room)));
     own = with_kept guest.own n (entry.Polled (cond waiting wait (wait_of (meeting_of shared room) shared.deliveries)));
-    shared = cond waiting shared (after_meeting shared room);
+    left = cond waiting shared (after_meeting shared room);
   }
 
   polls : (over : Bool) (wait : Option ℕ) (n room : ℕ) (parent : Option ℕ) → held_at guest.own.table n ≡ Some (record { entry = entry.Polled wait; parent = parent }) → DoesCall (call.PollRead n room) (polled_called (not over) wait n room) (λ answer s'. PollRow over input now g n room answer s')
@@ -217,7 +226,7 @@ module _ (input front : List ℕ) (shared : Shared) (guests : ℕ → Option Gue
         capacity = refl;
         rule = (
           next.poll guests live,
-          put_standing next.front' (after_meeting shared room) guests live told g n guest (with_kept guest.own n (entry.Polled left)) (run.Polled left) there (λ m. standing_kept guest.own n (entry.Polled left) parent m (ap parent_in held)) refl
+          put_standing next.front' (after_meeting shared room) guests live told g n guest (with_kept guest.own n (entry.Polled left)) (run.Polled left) there sharing (λ m. standing_kept guest.own n (entry.Polled left) parent m (ap parent_in held)) refl
               ∙ ap (λ s. with_standing s g n (run.Polled left)) (next.state guests live)
               ∙ ap (λ wait. with_standing (after_row shared.mode now room) g n (run.Polled wait)) (next.wait guests live),
         );
@@ -227,20 +236,20 @@ module _ (input front : List ℕ) (shared : Shared) (guests : ℕ → Option Gue
       polled_again wait left None h = tt
       polled_again wait left (Some p) h = h
 
-  poll_does : (n room : ℕ) (o : Option (Row Entry)) → held_at guest.own.table n ≡ o → DoesCall (call.PollRead n room) (poll_at (entry_in o) n room guest.own shared) (λ answer s'. PollAt (option_map standing_of o) input now g n room answer s')
+  poll_does : (n room : ℕ) (o : Option (Row Entry)) → held_at guest.own.table n ≡ o → DoesCall (call.PollRead n room) (poll_at shared_manner (entry_in o) n room guest.own shared) (λ answer s'. PollAt (option_map standing_of o) input now g n room answer s')
   poll_does n room None held = still (call.PollRead n room) (reply.Trap ResourceNotPresent) _ refl refl
   poll_does n room (Some it) held = by it.entry it.parent held
     where
-      by : (it : Entry) (parent : Option ℕ) → held_at guest.own.table n ≡ Some (record { entry = it; parent = parent }) → DoesCall (call.PollRead n room) (poll_at (Some it) n room guest.own shared) (λ answer s'. PollAt (Some (standing_by it parent)) input now g n room answer s')
+      by : (it : Entry) (parent : Option ℕ) → held_at guest.own.table n ≡ Some (record { entry = it; parent = parent }) → DoesCall (call.PollRead n room) (poll_at shared_manner (Some it) n room guest.own shared) (λ answer s'. PollAt (Some (standing_by it parent)) input now g n room answer s')
       by entry.Reader parent held = still (call.PollRead n room) (reply.Trap ResourceWrongType) _ refl refl
       by (entry.Polled wait) parent held =
           subst (λ (waiting : Bool). DoesCall (call.PollRead n room) (polled_called waiting wait n room) (λ (answer : Reply) (s' : Sharing). PollRow (is_over wait shared.deliveries) input now g n room answer s')) (sym (waiting_is wait shared.deliveries)) (polls (is_over wait shared.deliveries) wait n room parent held)
       by (entry.Pollable wait) parent held = still (call.PollRead n room) (reply.Trap ResourceWrongType) _ refl refl
 
   -- ---- a new entry
-  makes : (c : Call) (it : Entry) (parent : Option ℕ) → (nat_eq (live_count guest.own.table) guest.own.table.capacity ≡ false → push_refusal guest.own.table parent ≡ None) → IsParented it parent → ((p : ℕ) → parent ≡ Some p → entry_at guest.own p ≡ Some entry.Reader) → DoesCall c (made it parent guest.own shared) (λ answer s'. MakeRule (is_full now g) (standing_by it parent) now g answer s')
+  makes : (c : Call) (it : Entry) (parent : Option ℕ) → (nat_eq (live_count guest.own.table) guest.own.table.capacity ≡ false → push_refusal guest.own.table parent ≡ None) → IsParented it parent → ((p : ℕ) → parent ≡ Some p → entry_at guest.own p ≡ Some entry.Reader) → DoesCall c (on_own (made it parent guest.own) shared) (λ answer s'. MakeRule (is_full now g) (standing_by it parent) now g answer s')
   makes c it parent room parented reader =
-      subst (λ full. DoesCall c (made it parent guest.own shared) (λ answer s'. MakeRule full (standing_by it parent) now g answer s')) (sym full_is) (by (nat_eq (live_count guest.own.table) guest.own.table.capacity) refl)
+      subst (λ full. DoesCall c (on_own (made it parent guest.own) shared) (λ answer s'. MakeRule full (standing_by it parent) now g answer s')) (sym full_is) (by (nat_eq (live_count guest.own.table) guest.own.table.capacity) refl)
     where
       full_is : is_full now g ≡ nat_eq (live_count guest.own.table) guest.own.table.capacity
       full_is = λ i. nat_eq (is.count i) (capacity_in (there i))
@@ -248,7 +257,7 @@ module _ (input front : List ℕ) (shared : Shared) (guests : ℕ → Option Gue
       after : Own
       after = record { table = with_pushed guest.own.table it parent }
 
-      by : (full : Bool) → nat_eq (live_count guest.own.table) guest.own.table.capacity ≡ full → DoesCall c (cond full (only_reply (reply.Trap ResourceTableFull) guest.own shared) (record { reply = reply.Handle (next_number guest.own.table); own = record { table = with_pushed guest.own.table it parent }; shared = shared })) (λ answer s'. MakeRule full (standing_by it parent) now g answer s')
+      by : (full : Bool) → nat_eq (live_count guest.own.table) guest.own.table.capacity ≡ full → DoesCall c (on_own (cond full (only_reply (reply.Trap ResourceTableFull) guest.own) (record { reply = reply.Handle (next_number guest.own.table); own = record { table = with_pushed guest.own.table it parent } })) shared) (λ answer s'. MakeRule full (standing_by it parent) now g answer s')
       by true e = still c (reply.Trap ResourceTableFull) _ refl (refl, refl)
       by false e = record {
         front = front;
@@ -260,7 +269,7 @@ module _ (input front : List ℕ) (shared : Shared) (guests : ℕ → Option Gue
           next_number guest.own.table,
           refl,
           is.members (next_number guest.own.table) ∙ ap is_some (held-next_number guest.own.table is.table),
-          put_standing front shared guests live told g (next_number guest.own.table) guest (record { table = with_pushed guest.own.table it parent }) (standing_by it parent) there (λ m. standing_pushed guest.own it parent m) refl,
+          put_standing front shared guests live told g (next_number guest.own.table) guest (record { table = with_pushed guest.own.table it parent }) (standing_by it parent) there sharing (λ m. standing_pushed guest.own it parent m) refl,
         );
       }
 
@@ -273,21 +282,21 @@ module _ (input front : List ℕ) (shared : Shared) (guests : ℕ → Option Gue
   no_parent : (it : Entry) (p : ℕ) → None ≡ Some p → entry_at guest.own p ≡ Some entry.Reader
   no_parent it p e = absurd (true≢false (sym (ap is_some e)))
 
-  subscribe_does : (n : ℕ) (o : Option (Row Entry)) → held_at guest.own.table n ≡ o → DoesCall (call.Subscribe n) (subscribe_at (entry_in o) n guest.own shared) (λ answer s'. SubscribeAt (option_map standing_of o) now g n answer s')
+  subscribe_does : (n : ℕ) (o : Option (Row Entry)) → held_at guest.own.table n ≡ o → DoesCall (call.Subscribe n) (on_own (subscribe_at (entry_in o) n guest.own) shared) (λ answer s'. SubscribeAt (option_map standing_of o) now g n answer s')
   subscribe_does n None held = still (call.Subscribe n) (reply.Trap ResourceNotPresent) _ refl refl
   subscribe_does n (Some it) held = by it.entry it.parent held
     where
-      by : (it : Entry) (parent : Option ℕ) → held_at guest.own.table n ≡ Some (record { entry = it; parent = parent }) → DoesCall (call.Subscribe n) (subscribe_at (Some it) n guest.own shared) (λ answer s'. SubscribeAt (Some (standing_by it parent)) now g n answer s')
+      by : (it : Entry) (parent : Option ℕ) → held_at guest.own.table n ≡ Some (record { entry = it; parent = parent }) → DoesCall (call.Subscribe n) (on_own (subscribe_at (Some it) n guest.own) shared) (λ answer s'. SubscribeAt (Some (standing_by it parent)) now g n answer s')
       by entry.Reader parent held = makes (call.Subscribe n) (entry.Pollable None) (Some n) (room_for_child n (ap is_some held)) tt (λ p e. let same : n ≡ p = cc in ap (entry_at guest.own) (sym same) ∙ ap entry_in held)
       by (entry.Polled wait) parent held = still (call.Subscribe n) (reply.Trap ResourceWrongType) _ refl refl
       by (entry.Pollable wait) parent held = still (call.Subscribe n) (reply.Trap ResourceWrongType) _ refl refl
 
   -- ---- a pollable
-  ready_does : (n : ℕ) (o : Option (Row Entry)) → DoesCall (call.Ready n) (ready_at (entry_in o) guest.own shared) (λ answer s'. ReadyAt (option_map standing_of o) now answer s')
+  ready_does : (n : ℕ) (o : Option (Row Entry)) → DoesCall (call.Ready n) (ready_at shared_manner (entry_in o) guest.own shared) (λ answer s'. ReadyAt (option_map standing_of o) now answer s')
   ready_does n None = still (call.Ready n) (reply.Trap ResourceNotPresent) _ refl refl
   ready_does n (Some held) = by held.entry held.parent
     where
-      by : (it : Entry) (parent : Option ℕ) → DoesCall (call.Ready n) (ready_at (Some it) guest.own shared) (λ answer s'. ReadyAt (Some (standing_by it parent)) now answer s')
+      by : (it : Entry) (parent : Option ℕ) → DoesCall (call.Ready n) (ready_at shared_manner (Some it) guest.own shared) (λ answer s'. ReadyAt (Some (standing_by it parent)) now answer s')
       by entry.Reader parent = still (call.Ready n) (reply.Trap ResourceWrongType) _ refl refl
       by (entry.Polled wait) parent = still (call.Ready n) (reply.Trap ResourceWrongType) _ refl refl
       by (entry.Pollable wait) parent = record {
@@ -306,7 +315,7 @@ module _ (input front : List ℕ) (shared : Shared) (guests : ℕ → Option Gue
   kept_pollable : (n : ℕ) (wait left parent : Option ℕ) → held_at guest.own.table n ≡ Some (record { entry = entry.Pollable wait; parent = parent }) → IsOwn (with_kept guest.own n (entry.Pollable left)) (live g)
   kept_pollable n wait left parent held = own_kept guest.own (live g) n (entry.Pollable left) (record { entry = entry.Pollable wait; parent = parent }) is held (pollable_again wait left parent (is.parented n (record { entry = entry.Pollable wait; parent = parent }) held)) (no_reader_either wait)
 
-  waits : (over : Bool) (since n : ℕ) (parent : Option ℕ) → held_at guest.own.table n ≡ Some (record { entry = entry.Pollable (Some since); parent = parent }) → DoesCall (call.Block n) (record { reply = reply.Truth over; own = with_kept guest.own n (entry.Pollable (cond over None (Some since))); shared = shared }) (λ answer s'. BlockRow over now g n (parent_or parent) answer s')
+  waits : (over : Bool) (since n : ℕ) (parent : Option ℕ) → held_at guest.own.table n ≡ Some (record { entry = entry.Pollable (Some since); parent = parent }) → DoesCall (call.Block n) (record { reply = reply.Truth over; own = with_kept guest.own n (entry.Pollable (cond over None (Some since))); left = shared }) (λ answer s'. BlockRow over now g n (parent_or parent) answer s')
   waits false since n parent held = record {
     front = front;
     input_is = input_is;
@@ -321,10 +330,10 @@ module _ (input front : List ℕ) (shared : Shared) (guests : ℕ → Option Gue
     sound = sound;
     owned = kept_pollable n (Some since) None parent held;
     capacity = refl;
-    rule = (refl, put_standing front shared guests live told g n guest (with_kept guest.own n (entry.Pollable None)) (run.Pollable (parent_or parent) None) there (λ m. standing_kept guest.own n (entry.Pollable None) parent m (ap parent_in held)) refl);
+    rule = (refl, put_standing front shared guests live told g n guest (with_kept guest.own n (entry.Pollable None)) (run.Pollable (parent_or parent) None) there sharing (λ m. standing_kept guest.own n (entry.Pollable None) parent m (ap parent_in held)) refl);
   }
 
-  blocks : (wait : Option ℕ) (n : ℕ) (parent : Option ℕ) → held_at guest.own.table n ≡ Some (record { entry = entry.Pollable wait; parent = parent }) → DoesCall (call.Block n) (block_at (Some (entry.Pollable wait)) n guest.own shared) (λ answer s'. BlockRule wait now g n (parent_or parent) answer s')
+  blocks : (wait : Option ℕ) (n : ℕ) (parent : Option ℕ) → held_at guest.own.table n ≡ Some (record { entry = entry.Pollable wait; parent = parent }) → DoesCall (call.Block n) (block_at shared_manner (Some (entry.Pollable wait)) n guest.own shared) (λ answer s'. BlockRule wait now g n (parent_or parent) answer s')
   blocks None n parent held =
       let left : Option ℕ = cond (is_ready shared) None (Some shared.deliveries) in
       record {
@@ -335,18 +344,18 @@ module _ (input front : List ℕ) (shared : Shared) (guests : ℕ → Option Gue
         capacity = refl;
         rule = (
           ap reply.Truth (ready_is shared.mode),
-          put_standing front (after_ready shared) guests live told g n guest (with_kept guest.own n (entry.Pollable left)) (run.Pollable (parent_or parent) left) there (λ m. standing_kept guest.own n (entry.Pollable left) parent m (ap parent_in held)) refl
+          put_standing front (after_ready shared) guests live told g n guest (with_kept guest.own n (entry.Pollable left)) (run.Pollable (parent_or parent) left) there sharing (λ m. standing_kept guest.own n (entry.Pollable left) parent m (ap parent_in held)) refl
               ∙ ap (λ s. with_standing s g n (run.Pollable (parent_or parent) left)) (ready_state shared.mode front shared guests live told refl)
               ∙ ap (λ ready. with_standing (after_ready_row shared.mode now) g n (run.Pollable (parent_or parent) (cond ready None (Some shared.deliveries)))) (ready_is shared.mode),
         );
       }
   blocks (Some since) n parent held = waits (nat_lt since shared.deliveries) since n parent held
 
-  block_does : (n : ℕ) (o : Option (Row Entry)) → held_at guest.own.table n ≡ o → DoesCall (call.Block n) (block_at (entry_in o) n guest.own shared) (λ answer s'. BlockAt (option_map standing_of o) now g n answer s')
+  block_does : (n : ℕ) (o : Option (Row Entry)) → held_at guest.own.table n ≡ o → DoesCall (call.Block n) (block_at shared_manner (entry_in o) n guest.own shared) (λ answer s'. BlockAt (option_map standing_of o) now g n answer s')
   block_does n None held = still (call.Block n) (reply.Trap ResourceNotPresent) _ refl refl
   block_does n (Some it) held = by it.entry it.parent held
     where
-      by : (it : Entry) (parent : Option ℕ) → held_at guest.own.table n ≡ Some (record { entry = it; parent = parent }) → DoesCall (call.Block n) (block_at (Some it) n guest.own shared) (λ answer s'. BlockAt (Some (standing_by it parent)) now g n answer s')
+      by : (it : Entry) (parent : Option ℕ) → held_at guest.own.table n ≡ Some (record { entry = it; parent = parent }) → DoesCall (call.Block n) (block_at shared_manner (Some it) n guest.own shared) (λ answer s'. BlockAt (Some (standing_by it parent)) now g n answer s')
       by entry.Reader parent held = still (call.Block n) (reply.Trap ResourceWrongType) _ refl refl
       by (entry.Polled wait) parent held = still (call.Block n) (reply.Trap ResourceWrongType) _ refl refl
       by (entry.Pollable wait) parent held = blocks wait n parent held
@@ -363,7 +372,7 @@ module _ (input front : List ℕ) (shared : Shared) (guests : ℕ → Option Gue
   has_pollable : (n : ℕ) → Child guest.own.table n → HasPollable now g n
   has_pollable n child =
       let found = pollable_is n child.held.entry child.held.parent (is.parented child.number child.held child.is_held) child.parent_is in
-      (child.number, found.0, ap (λ (o : Option Guest). standing_with o child.number) there ∙ ap (option_map standing_of) child.is_held ∙ ap Some found.1)
+      (child.number, found.0, ap (λ (standing : ℕ → Option Standing). standing child.number) (stands_there guests g guest there sharing) ∙ ap (option_map standing_of) child.is_held ∙ ap Some found.1)
 
   parent_is : (n : ℕ) (wait : Option ℕ) (it : Entry) (parent : Option ℕ) → IsParented it parent → standing_by it parent ≡ run.Pollable n wait → parent ≡ Some n
   parent_is n wait entry.Reader parent h e = absurd (cc)
@@ -379,12 +388,12 @@ module _ (input front : List ℕ) (shared : Shared) (guests : ℕ → Option Gue
 
   no_pollable : (n : ℕ) → has_children guest.own.table n ≡ false → HasPollable now g n → ⊥
   no_pollable n none has =
-      true≢false (sym (has_child guest.own.table n (child_in n has.0 has.1 (held_at guest.own.table has.0) refl (sym (ap (λ (o : Option Guest). standing_with o has.0) there) ∙ has.2))) ∙ none)
+      true≢false (sym (has_child guest.own.table n (child_in n has.0 has.1 (held_at guest.own.table has.0) refl (sym (ap (λ (standing : ℕ → Option Standing). standing has.0) (stands_there guests g guest there sharing)) ∙ has.2))) ∙ none)
 
-  drops : (n : ℕ) (it : Entry) (parent : Option ℕ) (R : Reply → Sharing → Type 0) → held_at guest.own.table n ≡ Some (record { entry = it; parent = parent }) → (has_children guest.own.table n ≡ true → R (reply.Trap ResourceHasChildren) now) → (has_children guest.own.table n ≡ false → (s' : Sharing) → s' ≡ without_standing now g n → R reply.Ok s') → DoesCall (call.Drop n) (drop_at (Some it) n guest.own shared) R
+  drops : (n : ℕ) (it : Entry) (parent : Option ℕ) (R : Reply → Sharing → Type 0) → held_at guest.own.table n ≡ Some (record { entry = it; parent = parent }) → (has_children guest.own.table n ≡ true → R (reply.Trap ResourceHasChildren) now) → (has_children guest.own.table n ≡ false → (s' : Sharing) → s' ≡ without_standing now g n → R reply.Ok s') → DoesCall (call.Drop n) (on_own (drop_at (Some it) n guest.own) shared) R
   drops n it parent R held some none = by (has_children guest.own.table n) refl
     where
-      by : (has : Bool) → has_children guest.own.table n ≡ has → DoesCall (call.Drop n) (cond has (only_reply (reply.Trap ResourceHasChildren) guest.own shared) (record { reply = reply.Ok; own = record { table = without guest.own.table n }; shared = shared })) R
+      by : (has : Bool) → has_children guest.own.table n ≡ has → DoesCall (call.Drop n) (on_own (cond has (only_reply (reply.Trap ResourceHasChildren) guest.own) (record { reply = reply.Ok; own = record { table = without guest.own.table n } })) shared) R
       by true e = still (call.Drop n) (reply.Trap ResourceHasChildren) R refl (some e)
       by false e = record {
         front = front;
@@ -392,7 +401,7 @@ module _ (input front : List ℕ) (shared : Shared) (guests : ℕ → Option Gue
         sound = sound;
         owned = own_dropped guest.own (live g) n (record { entry = it; parent = parent }) is held e;
         capacity = refl;
-        rule = none e _ (put_none front shared guests live told g n guest (record { table = without guest.own.table n }) there (λ m. standing_dropped guest.own n m) refl);
+        rule = none e _ (put_none front shared guests live told g n guest (record { table = without guest.own.table n }) there sharing (λ m. standing_dropped guest.own n m) refl);
       }
 
   -- the parent of a child is a reader
@@ -402,33 +411,30 @@ module _ (input front : List ℕ) (shared : Shared) (guests : ℕ → Option Gue
       let reader : Some it ≡ Some entry.Reader = sym (ap entry_in held) ∙ is.under child.number n child.held child.is_held child.parent_is in
       other (cc)
 
-  drop_does : (n : ℕ) (o : Option (Row Entry)) → held_at guest.own.table n ≡ o → DoesCall (call.Drop n) (drop_at (entry_in o) n guest.own shared) (λ answer s'. DropAt (option_map standing_of o) now g n answer s')
+  drop_does : (n : ℕ) (o : Option (Row Entry)) → held_at guest.own.table n ≡ o → DoesCall (call.Drop n) (on_own (drop_at (entry_in o) n guest.own) shared) (λ answer s'. DropAt (option_map standing_of o) now g n answer s')
   drop_does n None held = still (call.Drop n) (reply.Trap ResourceNotPresent) _ refl refl
   drop_does n (Some it) held = by it.entry it.parent held
     where
-      by : (it : Entry) (parent : Option ℕ) → held_at guest.own.table n ≡ Some (record { entry = it; parent = parent }) → DoesCall (call.Drop n) (drop_at (Some it) n guest.own shared) (λ answer s'. DropAt (Some (standing_by it parent)) now g n answer s')
+      by : (it : Entry) (parent : Option ℕ) → held_at guest.own.table n ≡ Some (record { entry = it; parent = parent }) → DoesCall (call.Drop n) (on_own (drop_at (Some it) n guest.own) shared) (λ answer s'. DropAt (Some (standing_by it parent)) now g n answer s')
       by entry.Reader parent held = drops n entry.Reader parent _ held (λ has. inl (has_pollable n (child_of guest.own.table n has), refl, refl)) (λ none s' e. inr (no_pollable n none, refl, e))
       by (entry.Polled wait) parent held = drops n (entry.Polled wait) parent _ held (λ has. absurd (childless n (entry.Polled wait) parent held (no_reader wait) has)) (λ none s' e. (refl, e))
       by (entry.Pollable wait) parent held = drops n (entry.Pollable wait) parent _ held (λ has. absurd (childless n (entry.Pollable wait) parent held (no_reader_either wait) has)) (λ none s' e. (refl, e))
 
   -- ---- each call
   at_there : (n : ℕ) → (λ (o : Option Standing). o) (standing_in guest.own n) ≡ now.standing g n
-  at_there n = sym (ap (λ (o : Option Guest). standing_with o n) there)
+  at_there n = sym (ap (λ (standing : ℕ → Option Standing). standing n) (stands_there guests g guest there sharing))
 
-  input_does : (c : Call) (it : Entry) (from : Input) → IsParented it None → DoesCall c (input_made it from guest.own shared) (λ answer s'. MakeRule (is_full now g) (standing_by it None) now g answer s')
-  input_does c it from.Shared parented = makes c it None room_for_one parented (no_parent it)
-
-  rule_does : (c : Call) → DoesCall c (call_rule c guest.settings guest.own shared) (λ answer s'. CallRule c input now g answer s')
-  rule_does call.GetStdin = input_does call.GetStdin entry.Reader guest.settings.input tt
-  rule_does call.AsyncStdin = input_does call.AsyncStdin (entry.Polled None) guest.settings.input tt
-  rule_does (call.Read n size) = subst (λ it. DoesCall (call.Read n size) (read_at (entry_at guest.own n) size guest.own shared) (λ answer s'. ReadAt it input now size answer s')) (at_there n) (read_does n size (held_at guest.own.table n))
-  rule_does (call.Skip n size) = subst (λ it. DoesCall (call.Skip n size) (skip_at (entry_at guest.own n) size guest.own shared) (λ answer s'. SkipAt it input now size answer s')) (at_there n) (skip_does n size (held_at guest.own.table n))
-  rule_does (call.PollRead n room) = subst (λ it. DoesCall (call.PollRead n room) (poll_at (entry_at guest.own n) n room guest.own shared) (λ answer s'. PollAt it input now g n room answer s')) (at_there n) (poll_does n room (held_at guest.own.table n) refl)
-  rule_does (call.Subscribe n) = subst (λ it. DoesCall (call.Subscribe n) (subscribe_at (entry_at guest.own n) n guest.own shared) (λ answer s'. SubscribeAt it now g n answer s')) (at_there n) (subscribe_does n (held_at guest.own.table n) refl)
-  rule_does (call.Ready n) = subst (λ it. DoesCall (call.Ready n) (ready_at (entry_at guest.own n) guest.own shared) (λ answer s'. ReadyAt it now answer s')) (at_there n) (ready_does n (held_at guest.own.table n))
-  rule_does (call.Block n) = subst (λ it. DoesCall (call.Block n) (block_at (entry_at guest.own n) n guest.own shared) (λ answer s'. BlockAt it now g n answer s')) (at_there n) (block_does n (held_at guest.own.table n) refl)
-  rule_does (call.Drop n) = subst (λ it. DoesCall (call.Drop n) (drop_at (entry_at guest.own n) n guest.own shared) (λ answer s'. DropAt it now g n answer s')) (at_there n) (drop_does n (held_at guest.own.table n) refl)
-  rule_does (call.Exit status) = still (call.Exit status) (call_rule (call.Exit status) guest.settings guest.own shared).reply _ refl refl
+  rule_does : (c : Call) → DoesCall c (call_rule shared_manner c guest.own shared) (λ answer s'. CallRule c input now g answer s')
+  rule_does call.GetStdin = makes call.GetStdin entry.Reader None room_for_one tt (no_parent entry.Reader)
+  rule_does call.AsyncStdin = makes call.AsyncStdin (entry.Polled None) None room_for_one tt (no_parent (entry.Polled None))
+  rule_does (call.Read n size) = subst (λ it. DoesCall (call.Read n size) (read_at shared_manner (entry_at guest.own n) size guest.own shared) (λ answer s'. ReadAt it input now size answer s')) (at_there n) (read_does n size (held_at guest.own.table n))
+  rule_does (call.Skip n size) = subst (λ it. DoesCall (call.Skip n size) (skip_at shared_manner (entry_at guest.own n) size guest.own shared) (λ answer s'. SkipAt it input now size answer s')) (at_there n) (skip_does n size (held_at guest.own.table n))
+  rule_does (call.PollRead n room) = subst (λ it. DoesCall (call.PollRead n room) (poll_at shared_manner (entry_at guest.own n) n room guest.own shared) (λ answer s'. PollAt it input now g n room answer s')) (at_there n) (poll_does n room (held_at guest.own.table n) refl)
+  rule_does (call.Subscribe n) = subst (λ it. DoesCall (call.Subscribe n) (on_own (subscribe_at (entry_at guest.own n) n guest.own) shared) (λ answer s'. SubscribeAt it now g n answer s')) (at_there n) (subscribe_does n (held_at guest.own.table n) refl)
+  rule_does (call.Ready n) = subst (λ it. DoesCall (call.Ready n) (ready_at shared_manner (entry_at guest.own n) guest.own shared) (λ answer s'. ReadyAt it now answer s')) (at_there n) (ready_does n (held_at guest.own.table n))
+  rule_does (call.Block n) = subst (λ it. DoesCall (call.Block n) (block_at shared_manner (entry_at guest.own n) n guest.own shared) (λ answer s'. BlockAt it now g n answer s')) (at_there n) (block_does n (held_at guest.own.table n) refl)
+  rule_does (call.Drop n) = subst (λ it. DoesCall (call.Drop n) (on_own (drop_at (entry_at guest.own n) n guest.own) shared) (λ answer s'. DropAt it now g n answer s')) (at_there n) (drop_does n (held_at guest.own.table n) refl)
+  rule_does (call.Exit status) = still (call.Exit status) (call_rule shared_manner (call.Exit status) guest.own shared).reply _ refl refl
   rule_does (call.ExitCode code) = still (call.ExitCode code) (reply.Exit code) _ refl refl
 
 -- ---- one step on
@@ -462,6 +468,10 @@ over_standing : (b : Bool) (x y o : Option Guest) → standing_with x ≡ (λ n.
 over_standing true x y o h = h
 over_standing false x y o h = refl
 
+over_shares : (b : Bool) (x y o : Option Guest) → shares_in x ≡ shares_in y → shares_in (cond b x o) ≡ shares_in (cond b y o)
+over_shares true x y o h = h
+over_shares false x y o h = refl
+
 over_capacity : (b : Bool) (x y o : Option Guest) → capacity_in x ≡ capacity_in y → capacity_in (cond b x o) ≡ capacity_in (cond b y o)
 over_capacity true x y o h = h
 over_capacity false x y o h = refl
@@ -471,26 +481,194 @@ over_ended true x y o h = h
 over_ended false x y o h = refl
 
 -- a guest that a reply ends, and one that goes on
-abbrev left_guest : Bool → Guest → Own → Guest
-left_guest b guest own = record { settings = guest.settings; own = cond b (record { table = new_table own.table.capacity }) own; was_called = true; ended = b }
+abbrev ending : Bool → Guest → Own → Guest
+ending b guest own = record { settings = guest.settings; own = cond b (record { table = new_table own.table.capacity }) own; was_called = true; ended = b }
 
-left_shown : (b : Bool) (c : Call) (front : List ℕ) (shared : Shared) (guests : ℕ → Option Guest) (live : ℕ → FinSet nat_cmp) (told : Told) (g : ℕ) (guest : Guest) (own : Own) (l : FinSet nat_cmp) → guest.ended ≡ false → let mid : Sharing = shown front shared (at_number guests g (Some (with_own guest own))) live told in shown front shared (at_number guests g (Some (left_guest b guest own))) (at_number live g (cond b empty l)) told ≡ cond b (without_guest mid g) (record mid { live = at_number live g l })
+left_shown : (b : Bool) (c : Call) (front : List ℕ) (shared : Shared) (guests : ℕ → Option Guest) (live : ℕ → FinSet nat_cmp) (told : Told) (g : ℕ) (guest : Guest) (own : Own) (l : FinSet nat_cmp) → guest.ended ≡ false → let mid : Sharing = shown front shared (at_number guests g (Some (with_own guest own))) live told in shown front shared (at_number guests g (Some (ending b guest own))) (at_number live g (cond b empty l)) told ≡ cond b (without_guest mid g) (record mid { live = at_number live g l })
 left_shown false c front shared guests live told g guest own l e = λ i. shown front shared (at_number guests g (Some (record { settings = guest.settings; own = own; was_called = true; ended = sym e i }))) (at_number live g l) told
 left_shown true c front shared guests live told g guest own l e =
-    let new : Option Guest = Some (left_guest true guest own) in
+    let new : Option Guest = Some (ending true guest own) in
     let old : Option Guest = Some (with_own guest own) in
     λ i. record (shown front shared (at_number guests g old) (at_number live g empty) told) {
-      standing = λ m. over_standing (nat_eq m g) new old (guests m) (nothing_stands own.table.capacity) i;
+      standing = λ m. over_standing (nat_eq m g) new old (guests m) (nothing_stands (is_shared guest.settings.input) own.table.capacity) i;
+      shares = λ m. over_shares (nat_eq m g) new old (guests m) refl i;
       capacity = λ m. over_capacity (nat_eq m g) new old (guests m) refl i;
       ended = λ m. over_ended (nat_eq m g) new old (guests m) refl i;
     }
 
-left_owned : (b : Bool) (guest : Guest) (own : Own) (l : FinSet nat_cmp) → IsOwn own l → IsGuest (left_guest b guest own) (cond b empty l)
+left_owned : (b : Bool) (guest : Guest) (own : Own) (l : FinSet nat_cmp) → IsOwn own l → IsGuest (ending b guest own) (cond b empty l)
 left_owned true guest own l is = record { own = own_left own l is; fresh = λ e. absurd (true≢false e) }
 left_owned false guest own l is = record { own = is; fresh = λ e. absurd (true≢false e) }
 
-pub call_next : (b : Bool) (c : Call) (input front : List ℕ) (shared : Shared) (guests : ℕ → Option Guest) (live : ℕ → FinSet nat_cmp) (told : Told) (g : ℕ) (guest : Guest) → guest.ended ≡ b → guests g ≡ Some guest → IsGuest guest (live g) → ((m : ℕ) → OwnedBy (guests m) (live m)) → IsSound shared → input ≡ front ++ (shared.held ++ told.left) → let done : Answered = answer_by b c guest shared in Next input front shared guests live told (λ s s'. EndedRule b c input s g done.reply s') done.shared (at_number guests g (Some done.guest)) told
-call_next true c input front shared guests live told g guest ended there is owned sound input_is = record {
+-- ---- what a call on a stream leaves of its guest's own
+module _ (own : Own) (live : FinSet nat_cmp) (is : IsOwn own live) (s : Stream) where
+  abbrev OwnAfter : Call → Called Stream → Type 0
+  OwnAfter c done = IsOwn done.own (live_after c done.reply live) × (done.own.table.capacity ≡ own.table.capacity)
+
+  own_same : (c : Call) (answer : Reply) (left : Stream) → live_after c answer live ≡ live → OwnAfter c (record { reply = answer; own = own; left = left })
+  own_same c answer left same = (subst (λ live. IsOwn own live) (sym same) is, refl)
+
+  own_made : (c : Call) (it : Entry) (parent : Option ℕ) → (nat_eq (live_count own.table) own.table.capacity ≡ false → push_refusal own.table parent ≡ None) → IsParented it parent → ((p : ℕ) → parent ≡ Some p → entry_at own p ≡ Some entry.Reader) → OwnAfter c (on_own (made it parent own) s)
+  own_made c it parent room parented reader = by (nat_eq (live_count own.table) own.table.capacity) refl
+    where
+      by : (full : Bool) → nat_eq (live_count own.table) own.table.capacity ≡ full → OwnAfter c (on_own (cond full (only_reply (reply.Trap ResourceTableFull) own) (record { reply = reply.Handle (next_number own.table); own = record { table = with_pushed own.table it parent } })) s)
+      by true e = own_same c (reply.Trap ResourceTableFull) s refl
+      by false e = (own_pushed own live it parent is (room e) parented reader, refl)
+
+  own_room : nat_eq (live_count own.table) own.table.capacity ≡ false → push_refusal own.table None ≡ None
+  own_room e = ap (λ full. cond full (Some Full) None) e
+
+  own_orphan : (p : ℕ) → None ≡ Some p → entry_at own p ≡ Some entry.Reader
+  own_orphan p e = absurd (true≢false (sym (ap is_some e)))
+
+  bytes_live : (c : Call) (it : Result (List ℕ) StreamError) → live_after c (bytes_reply it) live ≡ live
+  bytes_live c (Ok bytes) = refl
+  bytes_live c (Err failure.Closed) = refl
+  bytes_live c (Err (failure.LastOperationFailed kind)) = refl
+  bytes_live c (Err (failure.Trap text)) = refl
+  bytes_live c (Err failure.OutOfMemory) = refl
+
+  count_live : (c : Call) (it : Result ℕ StreamError) → live_after c (count_reply it) live ≡ live
+  count_live c (Ok count) = refl
+  count_live c (Err failure.Closed) = refl
+  count_live c (Err (failure.LastOperationFailed kind)) = refl
+  count_live c (Err (failure.Trap text)) = refl
+  count_live c (Err failure.OutOfMemory) = refl
+
+  poll_live : (c : Call) (it : Poll (List ℕ)) → live_after c (poll_reply it) live ≡ live
+  poll_live c poll.Pending = refl
+  poll_live c (poll.Ready bytes) = refl
+  poll_live c (poll.Failed kind) = refl
+
+  own_read : (n size : ℕ) (o : Option Entry) → OwnAfter (call.Read n size) (read_at stream_manner o size own s)
+  own_read n size None = own_same (call.Read n size) (reply.Trap ResourceNotPresent) s refl
+  own_read n size (Some entry.Reader) = own_same (call.Read n size) (bytes_reply (input_read s size)) (after_input_read s size) (bytes_live (call.Read n size) (input_read s size))
+  own_read n size (Some (entry.Polled wait)) = own_same (call.Read n size) (reply.Trap ResourceWrongType) s refl
+  own_read n size (Some (entry.Pollable wait)) = own_same (call.Read n size) (reply.Trap ResourceWrongType) s refl
+
+  own_skip : (n size : ℕ) (o : Option Entry) → OwnAfter (call.Skip n size) (skip_at stream_manner o size own s)
+  own_skip n size None = own_same (call.Skip n size) (reply.Trap ResourceNotPresent) s refl
+  own_skip n size (Some entry.Reader) = own_same (call.Skip n size) (count_reply (input_skip s size)) (after_input_read s size) (count_live (call.Skip n size) (input_skip s size))
+  own_skip n size (Some (entry.Polled wait)) = own_same (call.Skip n size) (reply.Trap ResourceWrongType) s refl
+  own_skip n size (Some (entry.Pollable wait)) = own_same (call.Skip n size) (reply.Trap ResourceWrongType) s refl
+
+  own_poll : (n room : ℕ) (o : Option (Row Entry)) → held_at own.table n ≡ o → OwnAfter (call.PollRead n room) (poll_at stream_manner (entry_in o) n room own s)
+  own_poll n room None held = own_same (call.PollRead n room) (reply.Trap ResourceNotPresent) s refl
+  own_poll n room (Some it) held = by it.entry it.parent held
+    where
+      by : (it : Entry) (parent : Option ℕ) → held_at own.table n ≡ Some (record { entry = it; parent = parent }) → OwnAfter (call.PollRead n room) (poll_at stream_manner (Some it) n room own s)
+      by entry.Reader parent held = own_same (call.PollRead n room) (reply.Trap ResourceWrongType) s refl
+      by (entry.Polled wait) parent held = (
+        subst (λ live. IsOwn (with_kept own n (entry.Polled wait)) live) (sym (poll_live (call.PollRead n room) (input_poll_read s room)))
+            (own_kept own live n (entry.Polled wait) (record { entry = entry.Polled wait; parent = parent }) is held (is.parented n (record { entry = entry.Polled wait; parent = parent }) held) (no_reader wait)),
+        refl,
+      )
+      by (entry.Pollable wait) parent held = own_same (call.PollRead n room) (reply.Trap ResourceWrongType) s refl
+
+  own_subscribe : (n : ℕ) (o : Option (Row Entry)) → held_at own.table n ≡ o → OwnAfter (call.Subscribe n) (on_own (subscribe_at (entry_in o) n own) s)
+  own_subscribe n None held = own_same (call.Subscribe n) (reply.Trap ResourceNotPresent) s refl
+  own_subscribe n (Some it) held = by it.entry it.parent held
+    where
+      by : (it : Entry) (parent : Option ℕ) → held_at own.table n ≡ Some (record { entry = it; parent = parent }) → OwnAfter (call.Subscribe n) (on_own (subscribe_at (Some it) n own) s)
+      by entry.Reader parent held =
+          own_made (call.Subscribe n) (entry.Pollable None) (Some n)
+          (λ e. cond-true (is_live own.table n) _ _ (ap is_some held) ∙ ap (λ full. cond full (Some Full) None) e)
+          tt
+          (λ p e. let same : n ≡ p = cc in ap (entry_at own) (sym same) ∙ ap entry_in held)
+      by (entry.Polled wait) parent held = own_same (call.Subscribe n) (reply.Trap ResourceWrongType) s refl
+      by (entry.Pollable wait) parent held = own_same (call.Subscribe n) (reply.Trap ResourceWrongType) s refl
+
+  own_ready : (n : ℕ) (o : Option Entry) → OwnAfter (call.Ready n) (ready_at stream_manner o own s)
+  own_ready n None = own_same (call.Ready n) (reply.Trap ResourceNotPresent) s refl
+  own_ready n (Some entry.Reader) = own_same (call.Ready n) (reply.Trap ResourceWrongType) s refl
+  own_ready n (Some (entry.Polled wait)) = own_same (call.Ready n) (reply.Trap ResourceWrongType) s refl
+  own_ready n (Some (entry.Pollable wait)) = own_same (call.Ready n) (reply.Truth true) s refl
+
+  own_block : (n : ℕ) (o : Option (Row Entry)) → held_at own.table n ≡ o → OwnAfter (call.Block n) (block_at stream_manner (entry_in o) n own s)
+  own_block n None held = own_same (call.Block n) (reply.Trap ResourceNotPresent) s refl
+  own_block n (Some it) held = by it.entry it.parent held
+    where
+      by : (it : Entry) (parent : Option ℕ) → held_at own.table n ≡ Some (record { entry = it; parent = parent }) → OwnAfter (call.Block n) (block_at stream_manner (Some it) n own s)
+      by entry.Reader parent held = own_same (call.Block n) (reply.Trap ResourceWrongType) s refl
+      by (entry.Polled wait) parent held = own_same (call.Block n) (reply.Trap ResourceWrongType) s refl
+      by (entry.Pollable wait) parent held =
+          (own_kept own live n (entry.Pollable wait) (record { entry = entry.Pollable wait; parent = parent }) is held (is.parented n (record { entry = entry.Pollable wait; parent = parent }) held) (no_reader_either wait), refl)
+
+  own_drop : (n : ℕ) (o : Option (Row Entry)) → held_at own.table n ≡ o → OwnAfter (call.Drop n) (on_own (drop_at (entry_in o) n own) s)
+  own_drop n None held = own_same (call.Drop n) (reply.Trap ResourceNotPresent) s refl
+  own_drop n (Some it) held = by (has_children own.table n) refl
+    where
+      by : (has : Bool) → has_children own.table n ≡ has → OwnAfter (call.Drop n) (on_own (cond has (only_reply (reply.Trap ResourceHasChildren) own) (record { reply = reply.Ok; own = record { table = without own.table n } })) s)
+      by true e = own_same (call.Drop n) (reply.Trap ResourceHasChildren) s refl
+      by false e = (own_dropped own live n it is held e, refl)
+
+  own_after : (c : Call) → OwnAfter c (call_rule stream_manner c own s)
+  own_after call.GetStdin = own_made call.GetStdin entry.Reader None own_room tt own_orphan
+  own_after call.AsyncStdin = own_made call.AsyncStdin (entry.Polled None) None own_room tt own_orphan
+  own_after (call.Read n size) = own_read n size (entry_at own n)
+  own_after (call.Skip n size) = own_skip n size (entry_at own n)
+  own_after (call.PollRead n room) = own_poll n room (held_at own.table n) refl
+  own_after (call.Subscribe n) = own_subscribe n (held_at own.table n) refl
+  own_after (call.Ready n) = own_ready n (entry_at own n)
+  own_after (call.Block n) = own_block n (held_at own.table n) refl
+  own_after (call.Drop n) = own_drop n (held_at own.table n) refl
+  own_after (call.Exit status) = own_same (call.Exit status) (reply.Exit (exit_status status)) s refl
+  own_after (call.ExitCode code) = own_same (call.ExitCode code) (reply.Exit code) s refl
+
+module _ (input front : List ℕ) (shared : Shared) (guests : ℕ → Option Guest) (live : ℕ → FinSet nat_cmp) (told : Told) (g : ℕ) (guest : Guest) (c : Call) (goes_on : guest.ended ≡ false) (there : guests g ≡ Some guest) (is : IsGuest guest (live g)) (owned : (m : ℕ) → OwnedBy (guests m) (live m)) (sound : IsSound shared) (input_is : input ≡ front ++ (shared.held ++ told.left)) where
+  abbrev Goes : Answered → Type 0
+  Goes done = Next input front shared guests live told (λ s s'. EndedRule false c input s g done.reply s') done.shared (at_number guests g (Some done.guest)) told
+
+  -- a guest that reads the shared input
+  shared_next : (streams : Streams) → is_shared guest.settings.input ≡ true → Goes (answer_shared guest (call_rule shared_manner c guest.own shared) streams)
+  shared_next streams sharing =
+      let done : Called Shared = call_rule shared_manner c guest.own shared in
+      let does = rule_does input front shared guests live told g guest there sharing is.own sound input_is c in
+      let b = ends done.reply in
+      let l = live_after c done.reply (live g) in
+      let mid = shown does.front done.left (at_number guests g (Some (with_own guest done.own))) live told in
+      record {
+        front' = does.front;
+        live' = at_number live g (cond b empty l);
+        input_is = does.input_is;
+        sound = does.sound;
+        owned = owned_put guests live g (Some (ending b guest done.own)) (cond b empty l) owned (left_owned b guest done.own l does.owned);
+        rule = (
+          mid,
+          subst (λ sharing. AskedRule sharing c input (shown front shared guests live told) g done.reply mid) (sym (ap shares_in there ∙ sharing)) does.rule,
+          left_shown b c does.front done.left guests live told g guest done.own l goes_on,
+        );
+      }
+
+  -- a guest that reads a stream, or nothing
+  stream_next : (stream : Stream) (streams : Streams) → is_shared guest.settings.input ≡ false → Goes (answer_stream guest (call_rule stream_manner c guest.own stream) shared streams)
+  stream_next stream streams apart =
+      let done : Called Stream = call_rule stream_manner c guest.own stream in
+      let after = own_after guest.own (live g) is.own stream c in
+      let b = ends done.reply in
+      let l = live_after c done.reply (live g) in
+      let mid = shown front shared (at_number guests g (Some (with_own guest done.own))) live told in
+      record {
+        front' = front;
+        live' = at_number live g (cond b empty l);
+        input_is = input_is;
+        sound = sound;
+        owned = owned_put guests live g (Some (ending b guest done.own)) (cond b empty l) owned (left_owned b guest done.own l after.0);
+        rule = (
+          mid,
+          subst (λ sharing. AskedRule sharing c input (shown front shared guests live told) g done.reply mid) (sym (ap shares_in there ∙ apart)) (put_unshared front shared guests live told g guest done.own there apart after.1),
+          left_shown b c front shared guests live told g guest done.own l goes_on,
+        );
+      }
+
+  from_next : (reads : Input) (streams : Streams) → guest.settings.input ≡ reads → Goes (answer_from reads c guest shared streams)
+  from_next from.Shared streams e = shared_next streams (ap is_shared e)
+  from_next from.Empty streams e = stream_next none.Closed streams (ap is_shared e)
+  from_next from.Closed streams e = stream_next none.Closed streams (ap is_shared e)
+  from_next (from.Named name) streams e = stream_next (stream_of name streams) (put_stream name (call_rule stream_manner c guest.own (stream_of name streams)).left streams) (ap is_shared e)
+
+pub call_next : (b : Bool) (c : Call) (input front : List ℕ) (shared : Shared) (guests : ℕ → Option Guest) (live : ℕ → FinSet nat_cmp) (told : Told) (g : ℕ) (guest : Guest) (streams : Streams) → guest.ended ≡ b → guests g ≡ Some guest → IsGuest guest (live g) → ((m : ℕ) → OwnedBy (guests m) (live m)) → IsSound shared → input ≡ front ++ (shared.held ++ told.left) → let done : Answered = answer_by b c guest shared streams in Next input front shared guests live told (λ s s'. EndedRule b c input s g done.reply s') done.shared (at_number guests g (Some done.guest)) told
+call_next true c input front shared guests live told g guest streams ended there is owned sound input_is = record {
   front' = front;
   live' = at_number live g (live g);
   input_is = input_is;
@@ -498,23 +676,8 @@ call_next true c input front shared guests live told g guest ended there is owne
   owned = owned_put guests live g (Some (with_own guest guest.own)) (live g) owned (record { own = is.own; fresh = λ e. absurd (true≢false e) });
   rule = (refl, (λ i. shown front shared (at_number guests g (Some (with_own guest guest.own))) (λ m. cond_same live m g (live g) refl i) told) ∙ put_same front shared guests live told g guest there);
 }
-call_next false c input front shared guests live told g guest ended there is owned sound input_is =
-    let done : Called = call_rule c guest.settings guest.own shared in
-    let does = rule_does input front shared guests live told g guest there is.own sound input_is c in
-    let b = ends done.reply in
-    let l = live_after c done.reply (live g) in
-    record {
-      front' = does.front;
-      live' = at_number live g (cond b empty l);
-      input_is = does.input_is;
-      sound = does.sound;
-      owned = owned_put guests live g (Some (left_guest b guest done.own)) (cond b empty l) owned (left_owned b guest done.own l does.owned);
-      rule = (
-        shown does.front done.shared (at_number guests g (Some (with_own guest done.own))) live told,
-        does.rule,
-        left_shown b c does.front done.shared guests live told g guest done.own l ended,
-      );
-    }
+call_next false c input front shared guests live told g guest streams ended there is owned sound input_is =
+    from_next input front shared guests live told g guest c ended there is owned sound input_is guest.settings.input streams refl
 
 -- ---- captures and deliveries
 -- what a read of a source that tells gives, and what it leaves

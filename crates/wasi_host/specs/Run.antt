@@ -9,6 +9,8 @@ use Rattle.wasi_base.specs.Source.{Told, Given, gives, told_after}
 use Rattle.wasi_base.specs.Source as given
 use Rattle.wasi_stdin.specs.declared.mode.Mode.{Mode}
 use Rattle.wasi_stdin.specs.declared.mode.Mode.TheVariants.{Idle, Asked, Held, Failed, Closed}
+use Rattle.wasi_script.specs.declared.lines.Input.{Input}
+use Rattle.wasi_script.specs.declared.lines.Input.TheVariants as from
 use Rattle.wasi_script.specs.declared.lines.Line.{Line}
 use Rattle.wasi_script.specs.declared.lines.Line.TheVariants as line
 use Rattle.wasi_script.specs.declared.lines.Call.{Call}
@@ -33,6 +35,7 @@ pub record Sharing : Type 0 where
   pub deliveries : ℕ
   pub standing : ℕ → ℕ → Option Standing
   pub live : ℕ → FinSet nat_cmp
+  pub shares : ℕ → Bool
   pub capacity : ℕ → ℕ
   pub ended : ℕ → Bool
 
@@ -49,6 +52,7 @@ at_start told = record {
   deliveries = 0;
   standing = λ guest number. None;
   live = λ guest. empty;
+  shares = λ guest. false;
   capacity = λ guest. 1024;
   ended = λ guest. false;
 }
@@ -250,10 +254,15 @@ live_after c other live = live
 abbrev pub left_by : Call → ℕ → Reply → Sharing → Sharing
 left_by c g answer s = cond (ends answer) (without_guest s g) (record s { live = at_number s.live g (live_after c answer (s.live g)) })
 
--- a guest that ended is told so; any other call follows its rule
+-- a call of a guest that reads the shared input follows its rule, and any other call changes nothing of that input
+abbrev pub AskedRule : Bool → Call → List ℕ → Sharing → ℕ → Reply → Sharing → Type 0
+AskedRule true c input s g answer s' = CallRule c input s g answer s'
+AskedRule false c input s g answer s' = OtherRule s s'
+
+-- a guest that ended is told so
 abbrev pub EndedRule : Bool → Call → List ℕ → Sharing → ℕ → Reply → Sharing → Type 0
 EndedRule true c input s g answer s' = (answer ≡ reply.Ended) × (s' ≡ s)
-EndedRule false c input s g answer s' = (mid : Sharing) × CallRule c input s g answer mid × (s' ≡ left_by c g answer mid)
+EndedRule false c input s g answer s' = (mid : Sharing) × AskedRule (s.shares g) c input s g answer mid × (s' ≡ left_by c g answer mid)
 
 -- a capture takes what is asked for, one byte at least and 65536 at most, where nothing is captured
 abbrev pub size_captured : Mode → Option ℕ → Option ℕ
@@ -286,9 +295,18 @@ abbrev pub DeliverRule : Option ℕ → Sharing → Reply → Sharing → Type 0
 DeliverRule None s answer s' = (answer ≡ reply.Idle) × (s' ≡ s)
 DeliverRule (Some size) s answer s' = (answer ≡ delivery_answer (gives s.told size)) × (s' ≡ delivered_row (gives s.told size) (told_after s.told size) s)
 
+-- which guests read the shared input
+abbrev pub is_shared : Input → Bool
+is_shared from.Shared = true
+is_shared from.Empty = false
+is_shared from.Closed = false
+is_shared (from.Named name) = false
+
 -- one step of a run, on the input
 abbrev pub Rule : List ℕ → Sharing → Line → Reply → Sharing → Type 0
-Rule input s (line.Guest g from) answer s' = (answer ≡ reply.Ok) × (s' ≡ s)
+Rule input s (line.Pipe name bytes) answer s' = (answer ≡ reply.Ok) × (s' ≡ s)
+Rule input s (line.InFile name bytes plan) answer s' = (answer ≡ reply.Ok) × (s' ≡ s)
+Rule input s (line.Guest g reads) answer s' = (answer ≡ reply.Ok) × (s' ≡ record s { shares = at_number s.shares g (is_shared reads) })
 Rule input s (line.Capacity g capacity) answer s' = (answer ≡ reply.Ok) × (s' ≡ record s { capacity = at_number s.capacity g capacity })
 Rule input s (line.Call g c) answer s' = EndedRule (s.ended g) c input s g answer s'
 Rule input s line.Capture answer s' = CaptureRule (size_captured s.mode s.captured) s answer s'

@@ -20,7 +20,7 @@ use Rattle.wasi_host.specs.declared.entry.Entry.TheVariants as entry
 use Rattle.wasi_host.specs.declared.reply.Reply.TheVariants as reply
 use Rattle.wasi_host.specs.Calls.{Own, reading_reply, polling_reply}
 use Rattle.wasi_host.specs.Host.{Guest, new_guest}
-use Rattle.wasi_host.specs.Run.{Standing, Sharing, at_number, with_standing, without_standing, held_count, held_front, after_row, read_row, poll_row, wait_row, fault_to_read}
+use Rattle.wasi_host.specs.Run.{Standing, Sharing, is_shared, at_number, with_standing, without_standing, held_count, held_front, after_row, read_row, poll_row, wait_row, fault_to_read}
 use Rattle.wasi_host.specs.Run as run
 
 abbrev pub parent_or : Option ℕ → ℕ
@@ -38,9 +38,18 @@ standing_of held = standing_by held.entry held.parent
 abbrev pub standing_in : Own → ℕ → Option Standing
 standing_in own n = option_map standing_of (held_at own.table n)
 
+-- entries of a guest that reads something else are no matter of the shared input
+abbrev pub standing_where : Bool → Own → ℕ → Option Standing
+standing_where true own n = standing_in own n
+standing_where false own n = None
+
 abbrev pub standing_with : Option Guest → ℕ → Option Standing
 standing_with None n = None
-standing_with (Some guest) n = standing_in guest.own n
+standing_with (Some guest) n = standing_where (is_shared guest.settings.input) guest.own n
+
+abbrev pub shares_in : Option Guest → Bool
+shares_in None = false
+shares_in (Some guest) = is_shared guest.settings.input
 
 abbrev pub capacity_in : Option Guest → ℕ
 capacity_in None = 1024
@@ -61,6 +70,7 @@ shown front shared guests live told = record {
   deliveries = shared.deliveries;
   standing = λ g. standing_with (guests g);
   live = live;
+  shares = λ g. shares_in (guests g);
   capacity = λ g. capacity_in (guests g);
   ended = λ g. ended_in (guests g);
 }
@@ -76,9 +86,10 @@ pub get_set : {A : Type 0} (xs : List A) (n m : ℕ) (x d : A) → n < length xs
 get_set xs n m x d h = grind (arith, nat_tests, common_steps)
 
 -- what is shown once a guest is another
-pub shown_put : (front : List ℕ) (shared : Shared) (guests : ℕ → Option Guest) (live : ℕ → FinSet nat_cmp) (told : Told) (n : ℕ) (guest : Guest) → shown front shared (at_number guests n (Some guest)) live told ≡ record (shown front shared guests live told) { standing = at_number (shown front shared guests live told).standing n (standing_in guest.own); capacity = at_number (shown front shared guests live told).capacity n guest.own.table.capacity; ended = at_number (shown front shared guests live told).ended n guest.ended }
+pub shown_put : (front : List ℕ) (shared : Shared) (guests : ℕ → Option Guest) (live : ℕ → FinSet nat_cmp) (told : Told) (n : ℕ) (guest : Guest) → shown front shared (at_number guests n (Some guest)) live told ≡ record (shown front shared guests live told) { standing = at_number (shown front shared guests live told).standing n (standing_with (Some guest)); shares = at_number (shown front shared guests live told).shares n (is_shared guest.settings.input); capacity = at_number (shown front shared guests live told).capacity n guest.own.table.capacity; ended = at_number (shown front shared guests live told).ended n guest.ended }
 shown_put front shared guests live told n guest = λ i. record (shown front shared guests live told) {
   standing = λ g. cond_map {B = ℕ → Option Standing} standing_with (nat_eq g n) (Some guest) (guests g) i;
+  shares = λ g. cond_map shares_in (nat_eq g n) (Some guest) (guests g) i;
   capacity = λ g. cond_map capacity_in (nat_eq g n) (Some guest) (guests g) i;
   ended = λ g. cond_map ended_in (nat_eq g n) (Some guest) (guests g) i;
 }
@@ -87,39 +98,55 @@ shown_put front shared guests live told n guest = λ i. record (shown front shar
 abbrev pub with_own : Guest → Own → Guest
 with_own guest own = record { settings = guest.settings; own = own; was_called = true; ended = guest.ended }
 
-pub put_own : (front : List ℕ) (shared : Shared) (guests : ℕ → Option Guest) (live : ℕ → FinSet nat_cmp) (told : Told) (n : ℕ) (guest : Guest) (own : Own) (standing : ℕ → Option Standing) → guests n ≡ Some guest → standing_in own ≡ standing → own.table.capacity ≡ guest.own.table.capacity → shown front shared (at_number guests n (Some (with_own guest own))) live told ≡ record (shown front shared guests live told) { standing = at_number (shown front shared guests live told).standing n standing }
+pub put_own : (front : List ℕ) (shared : Shared) (guests : ℕ → Option Guest) (live : ℕ → FinSet nat_cmp) (told : Told) (n : ℕ) (guest : Guest) (own : Own) (standing : ℕ → Option Standing) → guests n ≡ Some guest → standing_with (Some (with_own guest own)) ≡ standing → own.table.capacity ≡ guest.own.table.capacity → shown front shared (at_number guests n (Some (with_own guest own))) live told ≡ record (shown front shared guests live told) { standing = at_number (shown front shared guests live told).standing n standing }
 put_own front shared guests live told n guest own standing e is same =
     shown_put front shared guests live told n (with_own guest own)
     ∙ (λ i. record (shown front shared guests live told) {
       standing = at_number (shown front shared guests live told).standing n (is i);
+      shares = λ g. cond_same {A = Bool} (λ (m : ℕ). shares_in (guests m)) g n (is_shared guest.settings.input) (ap shares_in e) i;
       capacity = λ g. cond_same {A = ℕ} (λ (m : ℕ). capacity_in (guests m)) g n own.table.capacity (ap capacity_in e ∙ sym same) i;
       ended = λ g. cond_same {A = Bool} (λ (m : ℕ). ended_in (guests m)) g n guest.ended (ap ended_in e) i;
     })
 
 -- a guest whose entries show what they did
-pub put_alike : (front : List ℕ) (shared : Shared) (guests : ℕ → Option Guest) (live : ℕ → FinSet nat_cmp) (told : Told) (n : ℕ) (guest : Guest) (own : Own) → guests n ≡ Some guest → standing_in own ≡ standing_in guest.own → own.table.capacity ≡ guest.own.table.capacity → shown front shared (at_number guests n (Some (with_own guest own))) live told ≡ shown front shared guests live told
+pub put_alike : (front : List ℕ) (shared : Shared) (guests : ℕ → Option Guest) (live : ℕ → FinSet nat_cmp) (told : Told) (n : ℕ) (guest : Guest) (own : Own) → guests n ≡ Some guest → standing_with (Some (with_own guest own)) ≡ standing_with (Some guest) → own.table.capacity ≡ guest.own.table.capacity → shown front shared (at_number guests n (Some (with_own guest own))) live told ≡ shown front shared guests live told
 put_alike front shared guests live told n guest own e is same =
-    put_own front shared guests live told n guest own (standing_in guest.own) e is same
-    ∙ (λ i. record (shown front shared guests live told) { standing = λ g. cond_same {A = ℕ → Option Standing} (λ (m : ℕ). standing_with (guests m)) g n (standing_in guest.own) (ap standing_with e) i })
+    put_own front shared guests live told n guest own (standing_with (Some guest)) e is same
+    ∙ (λ i. record (shown front shared guests live told) { standing = λ g. cond_same {A = ℕ → Option Standing} (λ (m : ℕ). standing_with (guests m)) g n (standing_with (Some guest)) (ap standing_with e) i })
 
 pub put_same : (front : List ℕ) (shared : Shared) (guests : ℕ → Option Guest) (live : ℕ → FinSet nat_cmp) (told : Told) (n : ℕ) (guest : Guest) → guests n ≡ Some guest → shown front shared (at_number guests n (Some (with_own guest guest.own))) live told ≡ shown front shared guests live told
 put_same front shared guests live told n guest e = put_alike front shared guests live told n guest guest.own e refl refl
 
--- one number's entry is another, and the rest stays
-pub put_standing : (front : List ℕ) (shared : Shared) (guests : ℕ → Option Guest) (live : ℕ → FinSet nat_cmp) (told : Told) (n k : ℕ) (guest : Guest) (own : Own) (it : Standing) → guests n ≡ Some guest → ((m : ℕ) → standing_in own m ≡ cond (nat_eq m k) (Some it) (standing_in guest.own m)) → own.table.capacity ≡ guest.own.table.capacity → shown front shared (at_number guests n (Some (with_own guest own))) live told ≡ with_standing (shown front shared guests live told) n k it
-put_standing front shared guests live told n k guest own it e is same = put_own front shared guests live told n guest own (at_number ((shown front shared guests live told).standing n) k (Some it)) e (λ i m. (is m ∙ ap (λ (o : Option Guest). cond (nat_eq m k) (Some it) (standing_with o m)) (sym e)) i) same
+-- a guest that reads something else shows nothing of its own
+pub put_unshared : (front : List ℕ) (shared : Shared) (guests : ℕ → Option Guest) (live : ℕ → FinSet nat_cmp) (told : Told) (n : ℕ) (guest : Guest) (own : Own) → guests n ≡ Some guest → is_shared guest.settings.input ≡ false → own.table.capacity ≡ guest.own.table.capacity → shown front shared (at_number guests n (Some (with_own guest own))) live told ≡ shown front shared guests live told
+put_unshared front shared guests live told n guest own e apart same = put_alike front shared guests live told n guest own e (ap (λ b. standing_where b own) apart ∙ ap (λ b. standing_where b guest.own) (sym apart)) same
 
-pub put_none : (front : List ℕ) (shared : Shared) (guests : ℕ → Option Guest) (live : ℕ → FinSet nat_cmp) (told : Told) (n k : ℕ) (guest : Guest) (own : Own) → guests n ≡ Some guest → ((m : ℕ) → standing_in own m ≡ cond (nat_eq m k) None (standing_in guest.own m)) → own.table.capacity ≡ guest.own.table.capacity → shown front shared (at_number guests n (Some (with_own guest own))) live told ≡ without_standing (shown front shared guests live told) n k
-put_none front shared guests live told n k guest own e is same = put_own front shared guests live told n guest own (at_number ((shown front shared guests live told).standing n) k None) e (λ i m. (is m ∙ ap (λ (o : Option Guest). cond (nat_eq m k) None (standing_with o m)) (sym e)) i) same
+-- of a guest that reads the shared input one number's entry is another, and the rest stays
+stands : (guest : Guest) (own : Own) → is_shared guest.settings.input ≡ true → standing_with (Some (with_own guest own)) ≡ standing_in own
+stands guest own sharing = ap (λ b. standing_where b own) sharing
+
+pub stands_there : (guests : ℕ → Option Guest) (n : ℕ) (guest : Guest) → guests n ≡ Some guest → is_shared guest.settings.input ≡ true → standing_with (guests n) ≡ standing_in guest.own
+stands_there guests n guest e sharing = ap standing_with e ∙ ap (λ b. standing_where b guest.own) sharing
+
+pub put_standing : (front : List ℕ) (shared : Shared) (guests : ℕ → Option Guest) (live : ℕ → FinSet nat_cmp) (told : Told) (n k : ℕ) (guest : Guest) (own : Own) (it : Standing) → guests n ≡ Some guest → is_shared guest.settings.input ≡ true → ((m : ℕ) → standing_in own m ≡ cond (nat_eq m k) (Some it) (standing_in guest.own m)) → own.table.capacity ≡ guest.own.table.capacity → shown front shared (at_number guests n (Some (with_own guest own))) live told ≡ with_standing (shown front shared guests live told) n k it
+put_standing front shared guests live told n k guest own it e sharing is same = put_own front shared guests live told n guest own (at_number ((shown front shared guests live told).standing n) k (Some it)) e (stands guest own sharing ∙ (λ i m. (is m ∙ ap (λ (standing : ℕ → Option Standing). cond (nat_eq m k) (Some it) (standing m)) (sym (stands_there guests n guest e sharing))) i)) same
+
+pub put_none : (front : List ℕ) (shared : Shared) (guests : ℕ → Option Guest) (live : ℕ → FinSet nat_cmp) (told : Told) (n k : ℕ) (guest : Guest) (own : Own) → guests n ≡ Some guest → is_shared guest.settings.input ≡ true → ((m : ℕ) → standing_in own m ≡ cond (nat_eq m k) None (standing_in guest.own m)) → own.table.capacity ≡ guest.own.table.capacity → shown front shared (at_number guests n (Some (with_own guest own))) live told ≡ without_standing (shown front shared guests live told) n k
+put_none front shared guests live told n k guest own e sharing is same = put_own front shared guests live told n guest own (at_number ((shown front shared guests live told).standing n) k None) e (stands guest own sharing ∙ (λ i m. (is m ∙ ap (λ (standing : ℕ → Option Standing). cond (nat_eq m k) None (standing m)) (sym (stands_there guests n guest e sharing))) i)) same
 
 -- nothing stands in a new table
-pub nothing_stands : (capacity : ℕ) → standing_in (record { table = new_table capacity }) ≡ (λ n. None)
-nothing_stands capacity = λ i n. option_map standing_of (map.get-empty {X = Row Entry} nat_cmp n i)
+nothing_in : (capacity : ℕ) → standing_in (record { table = new_table capacity }) ≡ (λ n. None)
+nothing_in capacity = λ i n. option_map standing_of (map.get-empty {X = Row Entry} nat_cmp n i)
 
--- a new guest shows nothing
-pub declare_same : (front : List ℕ) (shared : Shared) (guests : ℕ → Option Guest) (live : ℕ → FinSet nat_cmp) (told : Told) (n : ℕ) (from : Input) → guests n ≡ None → shown front shared (at_number guests n (Some (new_guest from))) live told ≡ shown front shared guests live told
-declare_same front shared guests live told n from e = shown_put front shared guests live told n (new_guest from) ∙ (λ i. record (shown front shared guests live told) {
-  standing = λ g. cond_same {A = ℕ → Option Standing} (λ (m : ℕ). standing_with (guests m)) g n (standing_in (new_guest from).own) (ap standing_with e ∙ sym (nothing_stands 1024)) i;
+pub nothing_stands : (b : Bool) (capacity : ℕ) → standing_where b (record { table = new_table capacity }) ≡ (λ n. None)
+nothing_stands true capacity = nothing_in capacity
+nothing_stands false capacity = refl
+
+-- a new guest shows where it reads, and nothing else
+pub declare_shown : (front : List ℕ) (shared : Shared) (guests : ℕ → Option Guest) (live : ℕ → FinSet nat_cmp) (told : Told) (n : ℕ) (reads : Input) → guests n ≡ None → shown front shared (at_number guests n (Some (new_guest reads))) live told ≡ record (shown front shared guests live told) { shares = at_number (shown front shared guests live told).shares n (is_shared reads) }
+declare_shown front shared guests live told n reads e = shown_put front shared guests live told n (new_guest reads) ∙ (λ i. record (shown front shared guests live told) {
+  standing = λ g. cond_same {A = ℕ → Option Standing} (λ (m : ℕ). standing_with (guests m)) g n (standing_with (Some (new_guest reads))) (ap standing_with e ∙ sym (nothing_stands (is_shared reads) 1024)) i;
+  shares = at_number (shown front shared guests live told).shares n (is_shared reads);
   capacity = λ g. cond_same {A = ℕ} (λ (m : ℕ). capacity_in (guests m)) g n 1024 (ap capacity_in e) i;
   ended = λ g. cond_same {A = Bool} (λ (m : ℕ). ended_in (guests m)) g n false (ap ended_in e) i;
 })

@@ -1,13 +1,14 @@
 -- What steps come to: over a source that tells, what they declare, and how often they deliver.
 use Rattle.std.proofs.Common.{◌≡◌, ℕ, ◌+◌, ◌<◌, ◌≤◌, zero, suc, Bool, true, false, List, [], ◌∷◌, ◌++◌, length, get_or, set, drop, cond, Option, Some, None, refl, ap, arith, ◌∙◌, sym, subst, add-one, append-nil, append_assoc}
-use Rattle.std.specs.Prelude.{MatchOption, is_some, ◌&&◌, nat_eq, nat_le, replicate}
+use Rattle.std.specs.Str.{bytes_eq}
+use Rattle.std.specs.Map.{set_value}
+use Rattle.std.specs.Prelude.{map, MatchOption, is_some, ◌&&◌, nat_eq, nat_le, replicate}
 use Rattle.std.specs.Option.{option_map}
 use Rattle.std.proofs.lemmas.Bool.Decides.{nat_tests}
 use Rattle.std.proofs.lemmas.Grind.{common_steps}
 use Rattle.std.proofs.Math.ListN.{length-set}
 use Rattle.std.proofs.Math.Seq.{drop-cons}
 use Rattle.wasi_base.specs.Source.{Told, Given, Gives}
-use Rattle.wasi_table.specs.Table.{live_count, has_children}
 use Rattle.wasi_stdin.specs.declared.mode.Mode.{Mode}
 use Rattle.wasi_stdin.specs.declared.mode.Mode.TheVariants.{Idle, Asked, Held, Failed, Closed}
 use Rattle.wasi_stdin.specs.Shared.{Shared, given_now, after_read, after_in, after_meeting, is_waiting, captured_by, capture_of}
@@ -17,13 +18,17 @@ use Rattle.wasi_script.specs.declared.lines.Line.{Line}
 use Rattle.wasi_script.specs.declared.lines.Line.TheVariants as line
 use Rattle.wasi_script.specs.declared.lines.Call.{Call}
 use Rattle.wasi_script.specs.declared.lines.Call.TheVariants as call
+use Rattle.wasi_script.specs.declared.streams.Direction.{Direction}
+use Rattle.wasi_script.specs.declared.streams.Direction.TheVariants.{Inward}
 use Rattle.wasi_script.specs.Grammar.{AllStand, may_stand, names_after, no_names}
 use Rattle.wasi_host.specs.declared.entry.Entry.{Entry}
 use Rattle.wasi_host.specs.declared.entry.Entry.TheVariants.{Reader, Polled, Pollable}
 use Rattle.wasi_host.specs.declared.reply.Reply.{Reply}
 use Rattle.wasi_host.specs.Reply.{text_of_all, reply_line}
-use Rattle.wasi_host.specs.Calls.{Settings, Own, Called, entry_at, made, input_made, read_at, skip_at, poll_at, subscribe_at, ready_at, block_at, drop_at, call_rule}
-use Rattle.wasi_host.specs.Host.{Guest, Host, IsStep, new_guest, with_capacity, answer_by, answer_in, guest_of, was_called_in, host_after, step_reply, step_host, step_told, names_of, replies, told_end, delivery_reply, after_delivery, given_for, told_for, new_host}
+use Rattle.wasi_host.specs.declared.stream.Stream.{Stream}
+use Rattle.wasi_host.specs.declared.stream.Stream.TheVariants as stream
+use Rattle.wasi_host.specs.Calls.{Own, entry_at, shared_manner, stream_manner, read_at, skip_at, poll_at, ready_at, block_at, call_rule}
+use Rattle.wasi_host.specs.Host.{Guest, Streams, stream_of, direction_of, Host, IsStep, new_guest, with_capacity, answer_from, answer_by, answer_in, guest_of, was_called_in, host_after, step_reply, step_host, step_told, names_of, replies, told_end, delivery_reply, after_delivery, given_for, told_for, new_host}
 use Rattle.wasi_host.specs.Shown.{cond_same, get_set}
 
 -- over a source that tells, a step is a function of what it tells
@@ -37,7 +42,9 @@ deliver_told None before after g u h e = (h ∙ e, λ s. (refl, refl))
 deliver_told (Some size) before after g u h e = let told = h.told u e in (told.1, λ s. (ap (λ g. delivery_reply (Some size) g) told.0, ap (λ g. after_delivery (Some size) s g) told.0))
 
 pub told_step : (before after : Option Told) (old new : Host) (step : Line) (answer : Reply) (u : Told) → IsStep before after old new step answer → before ≡ Some u → IsToldStep u after old new step answer
-told_step before after old new (line.Guest n from) answer u h e = record { reply_is = h.reply_is; host_is = h.host_is; told_is = h.told_is ∙ e }
+told_step before after old new (line.Pipe name bytes) answer u h e = record { reply_is = h.reply_is; host_is = h.host_is; told_is = h.told_is ∙ e }
+told_step before after old new (line.InFile name bytes plan) answer u h e = record { reply_is = h.reply_is; host_is = h.host_is; told_is = h.told_is ∙ e }
+told_step before after old new (line.Guest n reads) answer u h e = record { reply_is = h.reply_is; host_is = h.host_is; told_is = h.told_is ∙ e }
 told_step before after old new (line.Capacity n capacity) answer u h e = record { reply_is = h.reply_is; host_is = h.host_is; told_is = h.told_is ∙ e }
 told_step before after old new (line.Call n c) answer u h e = record { reply_is = h.reply_is; host_is = h.host_is; told_is = h.told_is ∙ e }
 told_step before after old new line.Capture answer u h e = record { reply_is = h.reply_is; host_is = h.host_is; told_is = h.told_is ∙ e }
@@ -45,7 +52,7 @@ told_step before after old new line.Deliver answer u h e =
     let told = deliver_told old.shared.captured before after (given_now new.shared) u h.told_is e in
     record {
       reply_is = h.reply_is ∙ (told.1 old.shared).0;
-      host_is = h.host_is ∙ ap (λ (shared : Shared). record { shared = shared; guests = old.guests }) (told.1 old.shared).1;
+      host_is = h.host_is ∙ ap (λ (shared : Shared). record { shared = shared; guests = old.guests; streams = old.streams }) (told.1 old.shared).1;
       told_is = told.0;
     }
 
@@ -94,13 +101,19 @@ sized_called : (capacity : ℕ) (o : Option Guest) → was_called_in o ≡ was_c
 sized_called capacity None = refl
 sized_called capacity (Some guest) = refl
 
-answered_called : (b : Bool) (c : Call) (guest : Guest) (s : Shared) → (answer_by b c guest s).guest.was_called ≡ true
-answered_called true c guest s = refl
-answered_called false c guest s = refl
+from_called : (reads : Input) (c : Call) (guest : Guest) (s : Shared) (streams : Streams) → (answer_from reads c guest s streams).guest.was_called ≡ true
+from_called input.Shared c guest s streams = refl
+from_called input.Empty c guest s streams = refl
+from_called input.Closed c guest s streams = refl
+from_called (input.Named name) c guest s streams = refl
 
-called_now : (c : Call) (o : Option Guest) (s : Shared) → is_some o ≡ true → (answer_in c o s).guest.was_called ≡ true
-called_now c None s h = absurd (cc)
-called_now c (Some guest) s h = answered_called guest.ended c guest s
+answered_called : (b : Bool) (c : Call) (guest : Guest) (s : Shared) (streams : Streams) → (answer_by b c guest s streams).guest.was_called ≡ true
+answered_called true c guest s streams = refl
+answered_called false c guest s streams = from_called guest.settings.input c guest s streams
+
+called_now : (c : Call) (o : Option Guest) (s : Shared) (streams : Streams) → is_some o ≡ true → (answer_in c o s streams).guest.was_called ≡ true
+called_now c None s streams h = absurd (cc)
+called_now c (Some guest) s streams h = answered_called guest.ended c guest s streams
 
 pub first_of : (a b : Bool) → (a && b) ≡ true → a ≡ true
 first_of true b h = refl
@@ -110,14 +123,54 @@ pub second_of : (a b : Bool) → (a && b) ≡ true → b ≡ true
 second_of true b h = h
 second_of false b h = absurd (cc)
 
+-- the names of streams, which no call changes
+abbrev directions : Streams → List (List ℕ × Direction)
+directions streams = map (λ row. (row.0, direction_of row.1)) streams
+
+shown_more : (streams : Streams) (name : List ℕ) (it : Stream) → directions (streams ++ (name, it) ∷ []) ≡ directions streams ++ (name, Inward) ∷ []
+shown_more [] name stream.Closed = refl
+shown_more [] name (stream.Pipe left) = refl
+shown_more [] name (stream.InFile told) = refl
+shown_more (row ∷ streams) name it = ap (λ rest. (row.0, direction_of row.1) ∷ rest) (shown_more streams name it)
+
+inward : (it : Stream) → direction_of it ≡ Inward
+inward stream.Closed = refl
+inward (stream.Pipe left) = refl
+inward (stream.InFile told) = refl
+
+put_names : (test : List ℕ → Bool) (streams : Streams) (it : Stream) → directions (set_value test streams it) ≡ directions streams
+put_names test [] it = refl
+put_names test (row ∷ streams) it = by (test row.0) (put_names test streams it)
+  where
+    by : (b : Bool) → directions (set_value test streams it) ≡ directions streams → directions (cond b ((row.0, it) ∷ streams) (row ∷ set_value test streams it)) ≡ directions (row ∷ streams)
+    by true rest = ap (λ d. (row.0, d) ∷ directions streams) (inward it ∙ sym (inward row.1))
+    by false rest = ap (λ rest. (row.0, direction_of row.1) ∷ rest) rest
+
+from_names : (reads : Input) (c : Call) (guest : Guest) (s : Shared) (streams : Streams) → directions (answer_from reads c guest s streams).streams ≡ directions streams
+from_names input.Shared c guest s streams = refl
+from_names input.Empty c guest s streams = refl
+from_names input.Closed c guest s streams = refl
+from_names (input.Named name) c guest s streams = put_names (bytes_eq name) streams (call_rule stream_manner c guest.own (stream_of name streams)).left
+
+by_names : (b : Bool) (c : Call) (guest : Guest) (s : Shared) (streams : Streams) → directions (answer_by b c guest s streams).streams ≡ directions streams
+by_names true c guest s streams = refl
+by_names false c guest s streams = from_names guest.settings.input c guest s streams
+
+answered_names : (c : Call) (o : Option Guest) (s : Shared) (streams : Streams) → directions (answer_in c o s streams).streams ≡ directions streams
+answered_names c None s streams = refl
+answered_names c (Some guest) s streams = by_names guest.ended c guest s streams
+
 -- what a step declares, and whose call it is
 pub names_step : (step : Line) (old : Host) (g : Given) → length old.guests ≡ 64 → may_stand (names_of old) step ≡ true → names_of (host_after step old g) ≡ names_after (names_of old) step
-names_step (line.Guest n from) old g len h =
+names_step (line.Pipe name bytes) old g len h = λ i. record { is_guest = (names_of old).is_guest; was_called = (names_of old).was_called; streams = shown_more old.streams name (stream.Pipe bytes) i }
+names_step (line.InFile name bytes plan) old g len h = λ i. record { is_guest = (names_of old).is_guest; was_called = (names_of old).was_called; streams = shown_more old.streams name (stream.InFile (record { left = bytes; plan = plan })) i }
+names_step (line.Guest n reads) old g len h =
     let lt : n < length old.guests = rw len (grind (arith, nat_tests, h)) in
     let new : is_some (get_or old.guests n None) ≡ false = grind (arith, nat_tests, h) in
     λ i. record {
-      is_guest = λ m. told_at is_some old.guests n m (Some (new_guest from)) lt i;
-      was_called = λ m. told_same was_called_in old.guests n m (Some (new_guest from)) lt (none_called (get_or old.guests n None) new) i;
+      is_guest = λ m. told_at is_some old.guests n m (Some (new_guest reads)) lt i;
+      was_called = λ m. told_same was_called_in old.guests n m (Some (new_guest reads)) lt (none_called (get_or old.guests n None) new) i;
+      streams = directions old.streams;
     }
 names_step (line.Capacity n capacity) old g len h =
     let there : is_some (get_or old.guests n None) ≡ true = first_of _ _ (second_of (nat_le 1 capacity && nat_le capacity 65536) _ h) in
@@ -126,13 +179,15 @@ names_step (line.Capacity n capacity) old g len h =
     λ i. record {
       is_guest = λ m. told_same is_some old.guests n m sized lt (sized_some capacity (get_or old.guests n None)) i;
       was_called = λ m. told_same was_called_in old.guests n m sized lt (sized_called capacity (get_or old.guests n None)) i;
+      streams = directions old.streams;
     }
 names_step (line.Call n c) old g len h =
     let lt : n < length old.guests = within old.guests n h in
-    let guest : Guest = (answer_in c (guest_of old n) old.shared).guest in
+    let guest : Guest = (answer_in c (guest_of old n) old.shared old.streams).guest in
     λ i. record {
       is_guest = λ m. told_same is_some old.guests n m (Some guest) lt h i;
-      was_called = λ m. (told_at was_called_in old.guests n m (Some guest) lt ∙ ap (λ b. cond (nat_eq m n) b (was_called_in (get_or old.guests m None))) (called_now c (guest_of old n) old.shared h)) i;
+      was_called = λ m. (told_at was_called_in old.guests n m (Some guest) lt ∙ ap (λ b. cond (nat_eq m n) b (was_called_in (get_or old.guests m None))) (called_now c (guest_of old n) old.shared old.streams h)) i;
+      streams = answered_names c (guest_of old n) old.shared old.streams i;
     }
 names_step line.Capture old g len h = refl
 names_step line.Deliver old g len h = refl
@@ -144,13 +199,15 @@ none_at f none (suc count) zero = none
 none_at f none (suc count) (suc n) = none_at f none count n
 
 pub names_new : names_of new_host ≡ no_names
-names_new = λ i. record { is_guest = λ n. none_at is_some refl 64 n i; was_called = λ n. none_at was_called_in refl 64 n i }
+names_new = λ i. record { is_guest = λ n. none_at is_some refl 64 n i; was_called = λ n. none_at was_called_in refl 64 n i; streams = [] }
 
 -- no step makes or drops a place for a guest
 pub places_step : (step : Line) (old : Host) (g : Given) → length (host_after step old g).guests ≡ length old.guests
-places_step (line.Guest n from) old g = length-set old.guests n (Some (new_guest from))
+places_step (line.Pipe name bytes) old g = refl
+places_step (line.InFile name bytes plan) old g = refl
+places_step (line.Guest n reads) old g = length-set old.guests n (Some (new_guest reads))
 places_step (line.Capacity n capacity) old g = length-set old.guests n (option_map (with_capacity capacity) (guest_of old n))
-places_step (line.Call n c) old g = length-set old.guests n (Some (answer_in c (guest_of old n) old.shared).guest)
+places_step (line.Call n c) old g = length-set old.guests n (Some (answer_in c (guest_of old n) old.shared old.streams).guest)
 places_step line.Capture old g = refl
 places_step line.Deliver old g = refl
 
@@ -170,77 +227,63 @@ after_poll_count : (waiting : Bool) (s : Shared) (room : ℕ) → (cond waiting 
 after_poll_count true s room = refl
 after_poll_count false s room = met_count s.mode s room
 
-read_count : (entry : Option Entry) (size : ℕ) (own : Own) (s : Shared) → (read_at entry size own s).shared.deliveries ≡ s.deliveries
+read_count : (entry : Option Entry) (size : ℕ) (own : Own) (s : Shared) → (read_at shared_manner entry size own s).left.deliveries ≡ s.deliveries
 read_count None size own s = refl
 read_count (Some Reader) size own s = after_read_count s size
 read_count (Some (Polled wait)) size own s = refl
 read_count (Some (Pollable wait)) size own s = refl
 
-skip_count : (entry : Option Entry) (size : ℕ) (own : Own) (s : Shared) → (skip_at entry size own s).shared.deliveries ≡ s.deliveries
+skip_count : (entry : Option Entry) (size : ℕ) (own : Own) (s : Shared) → (skip_at shared_manner entry size own s).left.deliveries ≡ s.deliveries
 skip_count None size own s = refl
 skip_count (Some Reader) size own s = after_read_count s size
 skip_count (Some (Polled wait)) size own s = refl
 skip_count (Some (Pollable wait)) size own s = refl
 
-poll_count : (entry : Option Entry) (number room : ℕ) (own : Own) (s : Shared) → (poll_at entry number room own s).shared.deliveries ≡ s.deliveries
+poll_count : (entry : Option Entry) (number room : ℕ) (own : Own) (s : Shared) → (poll_at shared_manner entry number room own s).left.deliveries ≡ s.deliveries
 poll_count None number room own s = refl
 poll_count (Some Reader) number room own s = refl
 poll_count (Some (Polled wait)) number room own s = after_poll_count (is_waiting wait s.deliveries) s room
 poll_count (Some (Pollable wait)) number room own s = refl
 
-shared_same : (b : Bool) (s : Shared) (x y : Called) → x.shared ≡ s → y.shared ≡ s → (cond b x y).shared.deliveries ≡ s.deliveries
-shared_same true s x y p q = ap (λ (s : Shared). s.deliveries) p
-shared_same false s x y p q = ap (λ (s : Shared). s.deliveries) q
-
-made_count : (entry : Entry) (parent : Option ℕ) (own : Own) (s : Shared) → (made entry parent own s).shared.deliveries ≡ s.deliveries
-made_count entry parent own s = shared_same (nat_eq (live_count own.table) own.table.capacity) s _ _ refl refl
-
-input_count : (entry : Entry) (from : Input) (own : Own) (s : Shared) → (input_made entry from own s).shared.deliveries ≡ s.deliveries
-input_count entry input.Shared own s = made_count entry None own s
-
-subscribe_count : (entry : Option Entry) (number : ℕ) (own : Own) (s : Shared) → (subscribe_at entry number own s).shared.deliveries ≡ s.deliveries
-subscribe_count None number own s = refl
-subscribe_count (Some Reader) number own s = made_count (Pollable None) (Some number) own s
-subscribe_count (Some (Polled wait)) number own s = refl
-subscribe_count (Some (Pollable wait)) number own s = refl
-
-ready_count : (entry : Option Entry) (own : Own) (s : Shared) → (ready_at entry own s).shared.deliveries ≡ s.deliveries
+ready_count : (entry : Option Entry) (own : Own) (s : Shared) → (ready_at shared_manner entry own s).left.deliveries ≡ s.deliveries
 ready_count None own s = refl
 ready_count (Some Reader) own s = refl
 ready_count (Some (Polled wait)) own s = refl
 ready_count (Some (Pollable wait)) own s = refl
 
-block_count : (entry : Option Entry) (number : ℕ) (own : Own) (s : Shared) → (block_at entry number own s).shared.deliveries ≡ s.deliveries
+block_count : (entry : Option Entry) (number : ℕ) (own : Own) (s : Shared) → (block_at shared_manner entry number own s).left.deliveries ≡ s.deliveries
 block_count None number own s = refl
 block_count (Some Reader) number own s = refl
 block_count (Some (Polled wait)) number own s = refl
 block_count (Some (Pollable None)) number own s = refl
 block_count (Some (Pollable (Some since))) number own s = refl
 
-drop_count : (entry : Option Entry) (number : ℕ) (own : Own) (s : Shared) → (drop_at entry number own s).shared.deliveries ≡ s.deliveries
-drop_count None number own s = refl
-drop_count (Some entry) number own s = shared_same (has_children own.table number) s _ _ refl refl
+rule_count : (c : Call) (own : Own) (s : Shared) → (call_rule shared_manner c own s).left.deliveries ≡ s.deliveries
+rule_count call.GetStdin own s = refl
+rule_count call.AsyncStdin own s = refl
+rule_count (call.Read n size) own s = read_count (entry_at own n) size own s
+rule_count (call.Skip n size) own s = skip_count (entry_at own n) size own s
+rule_count (call.PollRead n room) own s = poll_count (entry_at own n) n room own s
+rule_count (call.Subscribe n) own s = refl
+rule_count (call.Ready n) own s = ready_count (entry_at own n) own s
+rule_count (call.Block n) own s = block_count (entry_at own n) n own s
+rule_count (call.Drop n) own s = refl
+rule_count (call.Exit status) own s = refl
+rule_count (call.ExitCode code) own s = refl
 
-rule_count : (c : Call) (settings : Settings) (own : Own) (s : Shared) → (call_rule c settings own s).shared.deliveries ≡ s.deliveries
-rule_count call.GetStdin settings own s = input_count Reader settings.input own s
-rule_count call.AsyncStdin settings own s = input_count (Polled None) settings.input own s
-rule_count (call.Read n size) settings own s = read_count (entry_at own n) size own s
-rule_count (call.Skip n size) settings own s = skip_count (entry_at own n) size own s
-rule_count (call.PollRead n room) settings own s = poll_count (entry_at own n) n room own s
-rule_count (call.Subscribe n) settings own s = subscribe_count (entry_at own n) n own s
-rule_count (call.Ready n) settings own s = ready_count (entry_at own n) own s
-rule_count (call.Block n) settings own s = block_count (entry_at own n) n own s
-rule_count (call.Drop n) settings own s = drop_count (entry_at own n) n own s
-rule_count (call.Exit status) settings own s = refl
-rule_count (call.ExitCode code) settings own s = refl
+from_count : (reads : Input) (c : Call) (guest : Guest) (s : Shared) (streams : Streams) → (answer_from reads c guest s streams).shared.deliveries ≡ s.deliveries
+from_count input.Shared c guest s streams = rule_count c guest.own s
+from_count input.Empty c guest s streams = refl
+from_count input.Closed c guest s streams = refl
+from_count (input.Named name) c guest s streams = refl
 
-by_count : (b : Bool) (c : Call) (guest : Guest) (s : Shared) → (answer_by b c guest s).shared.deliveries ≡ s.deliveries
-by_count true c guest s = refl
-by_count false c guest s = rule_count c guest.settings guest.own s
+by_count : (b : Bool) (c : Call) (guest : Guest) (s : Shared) (streams : Streams) → (answer_by b c guest s streams).shared.deliveries ≡ s.deliveries
+by_count true c guest s streams = refl
+by_count false c guest s streams = from_count guest.settings.input c guest s streams
 
-called_count : (c : Call) (guest : Option Guest) (s : Shared) → (answer_in c guest s).shared.deliveries ≡ s.deliveries
-called_count c None s = refl
-called_count c (Some guest) s = by_count guest.ended c guest s
+called_count : (c : Call) (guest : Option Guest) (s : Shared) (streams : Streams) → (answer_in c guest s streams).shared.deliveries ≡ s.deliveries
+called_count c None s streams = refl
+called_count c (Some guest) s streams = by_count guest.ended c guest s streams
 
 captured_count : (c : Option ℕ) (s : Shared) → (captured_by c s).deliveries ≡ s.deliveries
 captured_count None s = refl
@@ -251,9 +294,11 @@ delivery_count None s g = omega arith
 delivery_count (Some n) s g = omega arith
 
 pub count_step : (step : Line) (old : Host) (g : Given) → (host_after step old g).shared.deliveries ≤ old.shared.deliveries + 1
-count_step (line.Guest n from) old g = omega arith
+count_step (line.Pipe name bytes) old g = omega arith
+count_step (line.InFile name bytes plan) old g = omega arith
+count_step (line.Guest n reads) old g = omega arith
 count_step (line.Capacity n capacity) old g = omega arith
-count_step (line.Call n c) old g = omega (arith, called_count c (guest_of old n) old.shared)
+count_step (line.Call n c) old g = omega (arith, called_count c (guest_of old n) old.shared old.streams)
 count_step line.Capture old g = omega (arith, captured_count (capture_of old.shared) old.shared)
 count_step line.Deliver old g = delivery_count old.shared.captured old.shared g
 

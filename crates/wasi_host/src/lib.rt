@@ -6,10 +6,12 @@ mod entry;
 mod laws;
 mod piece;
 mod reply;
+mod stream;
 mod text;
 
 pub use entry::Entry;
 pub use laws::{a_run_of_the_host, lines_fix_replies};
 pub use piece::Piece;
 pub use reply::Reply;
+pub use stream::{FileInput, Stream};
 pub use text::push_line;

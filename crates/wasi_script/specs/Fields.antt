@@ -22,9 +22,17 @@ number_below limit text = option_and_then (λ number. cond (nat_lt number limit)
 abbrev pub guest_of : List ℕ → Option ℕ
 guest_of = number_below 64
 
+-- a number from 1 to below a limit
+abbrev pub positive_below : ℕ → List ℕ → Option ℕ
+positive_below limit text = option_and_then (λ number. cond (nat_le 1 number) (Some number) None) (number_below limit text)
+
 -- a table's capacity, from 1 to 65536
 abbrev pub capacity_of : List ℕ → Option ℕ
-capacity_of text = option_and_then (λ number. cond (nat_le 1 number) (Some number) None) (number_below 65537 text)
+capacity_of = positive_below 65537
+
+-- how often a byte is repeated, from 1 to 1048576 times
+abbrev pub count_of : List ℕ → Option ℕ
+count_of = positive_below 1048577
 
 abbrev pub exit_code_of : List ℕ → Option ℕ
 exit_code_of = number_below 256
@@ -39,7 +47,11 @@ abbrev pub only_field : List (List ℕ) → Option (List ℕ)
 only_field [] = None
 only_field (field ∷ fields) = cond (is_at_end fields) (Some field) None
 
--- two numbers, and no more
-abbrev pub pair_of_numbers : List (List ℕ) → Option (ℕ × ℕ)
-pair_of_numbers [] = None
-pair_of_numbers (field ∷ fields) = option_and_then (λ first. option_map (λ second. (first, second)) (option_and_then number_of (only_field fields))) (number_of field)
+-- a field, and what the fields after it stand for then
+abbrev pub with_first : {A B : Type 0} → (List ℕ → Option A) → (A → List (List ℕ) → Option B) → List (List ℕ) → Option B
+with_first read rest [] = None
+with_first read rest (field ∷ fields) = option_and_then (λ it. rest it fields) (read field)
+
+-- one field, and no more
+abbrev pub with_last : {A B : Type 0} → (List ℕ → Option A) → (A → B) → List (List ℕ) → Option B
+with_last read make fields = option_map make (option_and_then read (only_field fields))

@@ -1,9 +1,15 @@
 -- Which scripts are valid, and the steps that they stand for.
-use Rattle.std.specs.Prelude.{◌≡◌, ℕ, ◌+◌, Bool, true, false, cond, not, ◌&&◌, nat_eq, nat_le, nat_lt, List, [], ◌∷◌, Option, Some, None, codes}
+use Rattle.std.specs.Prelude.{◌≡◌, ℕ, ◌+◌, Bool, true, false, cond, not, ◌&&◌, nat_eq, nat_le, nat_lt, List, [], ◌∷◌, ◌++◌, length, Option, Some, None, codes}
 use Rattle.std.specs.List.{slice_split}
-use Rattle.std.specs.Option.{option_and_then, option_map}
+use Rattle.std.specs.Map.{lookup}
+use Rattle.std.specs.Option.{is_some, option_and_then, option_map}
 use Rattle.std.specs.Str.{bytes_eq}
-use Rattle.wasi_script.specs.Fields.{words_of, guest_of, number_of, capacity_of, exit_code_of, is_at_end, only_field, pair_of_numbers}
+use Rattle.wasi_script.specs.Fields.{words_of, guest_of, number_of, capacity_of, exit_code_of, is_at_end, only_field, with_first, with_last}
+use Rattle.wasi_script.specs.Name.{name_of}
+use Rattle.wasi_script.specs.Bytes.{declared_bytes_of}
+use Rattle.wasi_script.specs.Plans.{read_plan_of}
+pub use Rattle.wasi_script.specs.declared.streams.Direction.{Direction}
+pub use Rattle.wasi_script.specs.declared.streams.Direction.TheVariants.{Inward, Outward}
 use Rattle.wasi_script.specs.declared.lines.Line.{Line}
 use Rattle.wasi_script.specs.declared.lines.Line.TheVariants as line
 use Rattle.wasi_script.specs.declared.lines.Call.{Call}
@@ -29,21 +35,11 @@ meaning_by (form ∷ forms) (word ∷ fields) = cond (bytes_eq word form.0) (for
 abbrev pub without_fields : {A : Type 0} → A → List (List ℕ) → Option A
 without_fields it fields = cond (is_at_end fields) (Some it) None
 
--- one field, which stands for something
-abbrev pub with_field : {A B : Type 0} → (List ℕ → Option A) → (A → B) → List (List ℕ) → Option B
-with_field read make fields = option_map make (option_and_then read (only_field fields))
-
--- two numbers
-abbrev pub with_numbers : {A : Type 0} → (ℕ → ℕ → A) → List (List ℕ) → Option A
-with_numbers make fields = option_map (λ pair. make pair.0 pair.1) (pair_of_numbers fields)
-
--- a guest, and what the fields after it stand for
-abbrev pub with_guest : {A B : Type 0} → (List (List ℕ) → Option A) → (ℕ → A → B) → List (List ℕ) → Option B
-with_guest read make [] = None
-with_guest read make (field ∷ fields) = option_and_then (λ guest. option_map (make guest) (read fields)) (guest_of field)
-
 abbrev pub input_of : List ℕ → Option Input
-input_of word = cond (bytes_eq word (codes "shared")) (Some input.Shared) None
+input_of word =
+    cond (bytes_eq word (codes "shared")) (Some input.Shared)
+    (cond (bytes_eq word (codes "empty")) (Some input.Empty)
+    (cond (bytes_eq word (codes "closed")) (Some input.Closed) (option_map input.Named (name_of word))))
 
 abbrev pub exit_of : List ℕ → Option ExitStatus
 exit_of word = cond (bytes_eq word (codes "ok")) (Some exit.Ok) (cond (bytes_eq word (codes "err")) (Some exit.Err) None)
@@ -53,23 +49,41 @@ abbrev pub call_of : List (List ℕ) → Option Call
 call_of = meaning_by (
     (codes "get-stdin", without_fields call.GetStdin)
     ∷ (codes "async-stdin", without_fields call.AsyncStdin)
-    ∷ (codes "read", with_numbers call.Read)
-    ∷ (codes "skip", with_numbers call.Skip)
-    ∷ (codes "poll-read", with_numbers call.PollRead)
-    ∷ (codes "subscribe", with_field number_of call.Subscribe)
-    ∷ (codes "ready", with_field number_of call.Ready)
-    ∷ (codes "block", with_field number_of call.Block)
-    ∷ (codes "drop", with_field number_of call.Drop)
-    ∷ (codes "exit", with_field exit_of call.Exit)
-    ∷ (codes "exit-code", with_field exit_code_of call.ExitCode)
+    ∷ (codes "read", with_first number_of (λ number. with_last number_of (call.Read number)))
+    ∷ (codes "skip", with_first number_of (λ number. with_last number_of (call.Skip number)))
+    ∷ (codes "poll-read", with_first number_of (λ number. with_last number_of (call.PollRead number)))
+    ∷ (codes "subscribe", with_last number_of call.Subscribe)
+    ∷ (codes "ready", with_last number_of call.Ready)
+    ∷ (codes "block", with_last number_of call.Block)
+    ∷ (codes "drop", with_last number_of call.Drop)
+    ∷ (codes "exit", with_last exit_of call.Exit)
+    ∷ (codes "exit-code", with_last exit_code_of call.ExitCode)
     ∷ [])
+
+-- the steps' fields
+abbrev pub pipe_of : List (List ℕ) → Option Line
+pipe_of = with_first name_of (λ name. with_last declared_bytes_of (line.Pipe name))
+
+abbrev pub in_file_of : List (List ℕ) → Option Line
+in_file_of = with_first name_of (λ name. with_first declared_bytes_of (λ bytes. with_last read_plan_of (line.InFile name bytes)))
+
+abbrev pub guest_line_of : List (List ℕ) → Option Line
+guest_line_of = with_first guest_of (λ guest. with_last input_of (line.Guest guest))
+
+abbrev pub capacity_line_of : List (List ℕ) → Option Line
+capacity_line_of = with_first guest_of (λ guest. with_last capacity_of (line.Capacity guest))
+
+abbrev pub call_line_of : List (List ℕ) → Option Line
+call_line_of = with_first guest_of (λ guest fields. option_map (line.Call guest) (call_of fields))
 
 -- the steps
 abbrev pub line_of : List (List ℕ) → Option Line
 line_of = meaning_by (
-    (codes "guest", with_guest (λ fields. option_and_then input_of (only_field fields)) line.Guest)
-    ∷ (codes "capacity", with_guest (λ fields. option_and_then capacity_of (only_field fields)) line.Capacity)
-    ∷ (codes "call", with_guest call_of line.Call)
+    (codes "pipe", pipe_of)
+    ∷ (codes "infile", in_file_of)
+    ∷ (codes "guest", guest_line_of)
+    ∷ (codes "capacity", capacity_line_of)
+    ∷ (codes "call", call_line_of)
     ∷ (codes "capture", without_fields line.Capture)
     ∷ (codes "deliver", without_fields line.Deliver)
     ∷ [])
@@ -83,29 +97,70 @@ abbrev pub reading_of : List ℕ → Reading
 reading_of [] = Note
 reading_of (byte ∷ bytes) = cond (nat_eq byte 35) Note (step_or_invalid (line_of (words_of (byte ∷ bytes))))
 
--- what the lines so far declared, and which guests they let call
+-- what the lines so far declared, the streams in order, and which guests they let call
 pub record Names : Type 0 where
   pub is_guest : ℕ → Bool
   pub was_called : ℕ → Bool
+  pub streams : List (List ℕ × Direction)
 
 abbrev pub no_names : Names
-no_names = record { is_guest = λ number. false; was_called = λ number. false }
+no_names = record { is_guest = λ number. false; was_called = λ number. false; streams = [] }
 
-abbrev pub also : ℕ → (ℕ → Bool) → ℕ → Bool
-also guest test number = cond (nat_eq number guest) true (test number)
+-- the direction of the stream of a name, if one is declared
+abbrev pub direction_of : Names → List ℕ → Option Direction
+direction_of names name = lookup (bytes_eq name) names.streams
+
+abbrev pub is_named : Names → List ℕ → Bool
+is_named names name = is_some (direction_of names name)
+
+abbrev pub is_inward : Option Direction → Bool
+is_inward None = false
+is_inward (Some Inward) = true
+is_inward (Some Outward) = false
+
+-- a declared input
+abbrev pub is_input : Names → List ℕ → Bool
+is_input names name = is_inward (direction_of names name)
+
+-- a stream may be declared under a new name, while there are fewer than 64
+abbrev pub may_declare : Names → List ℕ → Bool
+may_declare names name = nat_lt (length names.streams) 64 && not (is_named names name)
+
+-- a guest's input is none that a name says, or a declared one
+abbrev pub input_stands : Names → Input → Bool
+input_stands names input.Shared = true
+input_stands names input.Empty = true
+input_stands names input.Closed = true
+input_stands names (input.Named name) = is_input names name
 
 -- a step may stand after these lines: a guest's capacity is set before its first call
 abbrev pub may_stand : Names → Line → Bool
-may_stand names (line.Guest guest input) = nat_lt guest 64 && not (names.is_guest guest)
+may_stand names (line.Pipe name bytes) = may_declare names name
+may_stand names (line.InFile name bytes plan) = may_declare names name
+may_stand names (line.Guest guest input) = nat_lt guest 64 && (not (names.is_guest guest) && input_stands names input)
 may_stand names (line.Capacity guest capacity) = (nat_le 1 capacity && nat_le capacity 65536) && (names.is_guest guest && not (names.was_called guest))
 may_stand names (line.Call guest call) = names.is_guest guest
 may_stand names line.Capture = true
 may_stand names line.Deliver = true
 
+abbrev pub also : ℕ → (ℕ → Bool) → ℕ → Bool
+also guest test number = cond (nat_eq number guest) true (test number)
+
+abbrev pub with_guest : Names → ℕ → Names
+with_guest names guest = record { is_guest = also guest names.is_guest; was_called = names.was_called; streams = names.streams }
+
+abbrev pub with_caller : Names → ℕ → Names
+with_caller names guest = record { is_guest = names.is_guest; was_called = also guest names.was_called; streams = names.streams }
+
+abbrev pub with_stream : Names → List ℕ → Direction → Names
+with_stream names name direction = record { is_guest = names.is_guest; was_called = names.was_called; streams = names.streams ++ (name, direction) ∷ [] }
+
 abbrev pub names_after : Names → Line → Names
-names_after names (line.Guest guest input) = record { is_guest = also guest names.is_guest; was_called = names.was_called }
+names_after names (line.Pipe name bytes) = with_stream names name Inward
+names_after names (line.InFile name bytes plan) = with_stream names name Inward
+names_after names (line.Guest guest input) = with_guest names guest
 names_after names (line.Capacity guest capacity) = names
-names_after names (line.Call guest call) = record { is_guest = names.is_guest; was_called = also guest names.was_called }
+names_after names (line.Call guest call) = with_caller names guest
 names_after names line.Capture = names
 names_after names line.Deliver = names
 

@@ -1,6 +1,8 @@
+pub mod Bytes
 pub mod Fields
 pub mod Grammar
-pub mod Guests
-pub mod Parts
+pub mod Kept
+pub mod Name
+pub mod Plans
 pub mod Refused
 pub mod Standing

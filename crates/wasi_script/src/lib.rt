@@ -1,15 +1,17 @@
-//! The language of session scripts: its lines, and the parser that gives a script's steps.
+//! Scratch.
 #![tactic(auto)]
 
+mod bytes;
 mod forms;
-mod guests;
 mod lines;
-mod numbers;
+mod name;
 mod parse;
-mod parts;
+mod plan;
+mod streams;
 
+pub use bytes::ByteString;
 pub use lines::{Call, ExitStatus, Input, Line};
+pub use name::Name;
 pub use parse::{Script, ScriptError, parse_script};
-
-#[cfg(test)]
-mod tests;
+pub use plan::ReadPlan;
+pub use streams::Direction;

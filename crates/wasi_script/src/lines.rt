@@ -1,8 +1,18 @@
+use crate::bytes::ByteString;
+use crate::name::Name;
+use crate::plan::ReadPlan;
+
 /// Where a guest's standard input comes from.
-#[derive(Clone, Copy, Debug, PartialEq, Eq, Drop)]
+#[derive(Drop)]
 pub enum Input {
     /// The session's one input, which all such guests share.
     Shared,
+    /// Nothing: an input at its end.
+    Empty,
+    /// An input that is closed.
+    Closed,
+    /// The declared input of this name.
+    Named(Name),
 }
 
 /// How a guest says that it ends.
@@ -40,8 +50,17 @@ pub enum Call {
 }
 
 /// A step of a session.
-#[derive(Clone, Copy, Debug, PartialEq, Eq, Drop)]
+#[derive(Drop)]
 pub enum Line {
+    /// `pipe NAME BYTES`: there is an input that gives these bytes, at most 1048576.
+    Pipe { name: Name, bytes: ByteString },
+    /// `infile NAME BYTES PLAN`: there is an input over a file of these bytes, at most 1048576,
+    /// whose reads go by the plan.
+    InFile {
+        name: Name,
+        bytes: ByteString,
+        plan: ReadPlan,
+    },
     /// `guest G IN`: there is a guest of this number, from 0 to 63.
     Guest { guest: u32, input: Input },
     /// `capacity G NUM`: the most entries that the guest's table holds, from 1 to 65536.

@@ -2,3 +2,4 @@ pub mod ReadFacts
 pub mod TellFacts
 pub mod GuestFacts
 pub mod OwnFacts
+pub mod RowFacts

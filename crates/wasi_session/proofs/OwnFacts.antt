@@ -9,7 +9,6 @@ use Rattle.std.specs.FinMap.{nat_cmp-IsAntisymmetric, same_map}
 use Rattle.wasi_table.specs.declared.error.TableError.TheVariants.{WrongType}
 use Rattle.wasi_table.specs.Table.{Table, Held, held_at, got, of_kind, with_entry, parent_in}
 use Rattle.wasi_table.specs.Laws.{held-insert}
-use Rattle.wasi_stdin.specs.Shared.{Shared}
 use Rattle.wasi_host.specs.declared.entry.Entry.{Entry}
 use Rattle.wasi_host.specs.Entry.{kind_of}
 use Rattle.wasi_host.specs.Calls.{Own}
@@ -33,6 +32,6 @@ with_same {E} kind_of t n kind entry e =
     ap (λ (entries : map.FinMap nat_cmp (Held E)). record { entries = entries; freed = t.freed; next = t.next; capacity = t.capacity })
     (same_map nat_cmp_total nat_cmp-IsAntisymmetric (map.insert t.entries n now) t.entries (λ q. held-insert t.entries n now q ∙ put_again t n q entry there (eqb q n) refl))
 
-pub kept_same : {A F : Type 0} (result : Result A F) (t : Table Entry) (n kind : ℕ) (before after : Entry) (s s' : Shared) → got kind_of t n kind ≡ Ok before → OnErr result ((s' ≡ s) × (after ≡ before)) → OnErr result ((◌≡◌ {A = Own} (record { table = with_entry t n after }) (record { table = t })) × (s' ≡ s))
+pub kept_same : {A F S : Type 0} (result : Result A F) (t : Table Entry) (n kind : ℕ) (before after : Entry) (s s' : S) → got kind_of t n kind ≡ Ok before → OnErr result ((s' ≡ s) × (after ≡ before)) → OnErr result ((◌≡◌ {A = Own} (record { table = with_entry t n after }) (record { table = t })) × (s' ≡ s))
 kept_same (Ok answer) t n kind before after s s' e same = tt
 kept_same (Err error) t n kind before after s s' e same = (ap (λ t. record { table = t }) (ap (λ entry. with_entry t n entry) same.1 ∙ with_same kind_of t n kind before e), same.0)

@@ -1,3 +1,5 @@
+pub mod States
+pub mod Rows
 pub mod Refusals
 pub mod Sitting
 pub mod Reading

@@ -2,15 +2,18 @@
 #![tactic(auto)]
 
 mod guest;
+mod input;
 mod own;
 mod program;
 mod read;
 mod room;
 mod run;
 mod session;
-mod shared;
+mod state;
+mod streams;
 #[cfg(test)]
 mod tests;
+mod waits;
 mod world;
 
 pub use program::run_program;

@@ -1,15 +1,15 @@
 ghost use Rattle.std.specs.Prelude.{◌≡◌, ◌≤◌, IfOk, OnErr, Some, None, MatchOption, MatchResult, Option, ℕ};
 ghost use Rattle.wasi_table.specs.Table.{new_table, push_refusal};
-ghost use Rattle.wasi_stdin.specs.Shared.{Shared};
 ghost use Rattle.wasi_host.specs.Calls.{Own, made, entry_at, read_at, skip_at, poll_at, subscribe_at, ready_at, block_at, drop_at};
 ghost use Rattle.wasi_session.specs.Refusals.{refusal_of};
 
-use crate::shared::{blocking, polling, reading, readying, skipping};
+use crate::input::StandardInput;
+use crate::waits::{blocking, polling};
 use std::alloc::Global;
 use std::marker::Model;
 use wasi_base::{OutOfMemory, TrapText};
 use wasi_host::{Entry, Reply};
-use wasi_stdin::{StdinCore, Wait};
+use wasi_stdin::Wait;
 use wasi_table::{ResourceTable, TableError};
 
 /// What a guest owns: its entries by their numbers, and how many it may have.
@@ -72,7 +72,7 @@ impl Own {
 
     /// A new entry, and its number.
     pub fn make(&mut self, entry: Entry) -> Result<Reply, OutOfMemory>
-        ensures done { IfOk result (λ reply. (shared : Shared) → record { reply = reply; own = self.new; shared = shared } ≡ made entry None self.old shared) }
+        ensures done { IfOk result (λ reply. record { reply = reply; own = self.new } ≡ made entry None self.old) }
         ensures err { OnErr result (self.new ≡ self.old) }
     {
         match self.table.push(entry) {
@@ -82,54 +82,54 @@ impl Own {
         }
     }
 
-    pub fn read(
+    pub fn read<I: StandardInput>(
         &self,
         alloc: Global,
         number: u64,
         size: u64,
-        core: &mut StdinCore,
+        input: &mut I,
     ) -> Result<Reply, OutOfMemory>
-        ensures done { IfOk result (λ reply. record { reply = reply; own = self.now; shared = core.new } ≡ read_at (entry_at self.now number) size self.now core.old) }
-        ensures err { OnErr result (core.new ≡ core.old) }
+        ensures done { IfOk result (λ reply. record { reply = reply; own = self.now; left = input.new } ≡ read_at I.manner (entry_at self.now number) size self.now input.old) }
+        ensures err { OnErr result (input.new ≡ input.old) }
     {
         match self.find(number, Entry::READER) {
-            Ok(_) => reading(alloc, size, core),
+            Ok(_) => input.read(alloc, size),
             Err(trap) => Ok(Reply::Trap(trap)),
         }
     }
 
-    pub fn skip(&self, number: u64, size: u64, core: &mut StdinCore) -> Reply
-        ensures { record { reply = result; own = self.now; shared = core.new } ≡ skip_at (entry_at self.now number) size self.now core.old }
+    pub fn skip<I: StandardInput>(&self, number: u64, size: u64, input: &mut I) -> Reply
+        ensures { record { reply = result; own = self.now; left = input.new } ≡ skip_at I.manner (entry_at self.now number) size self.now input.old }
     {
         match self.find(number, Entry::READER) {
-            Ok(_) => skipping(size, core),
+            Ok(_) => input.skip(size),
             Err(trap) => Reply::Trap(trap),
         }
     }
 
-    pub fn poll_read(
+    pub fn poll_read<I: StandardInput>(
         &mut self,
         alloc: Global,
         number: u64,
         room: u64,
-        core: &mut StdinCore,
+        input: &mut I,
     ) -> Result<Reply, OutOfMemory>
-        ensures done { IfOk result (λ reply. record { reply = reply; own = self.new; shared = core.new } ≡ poll_at (entry_at self.old number) number room self.old core.old) }
-        ensures err { OnErr result ((self.new ≡ self.old) × (core.new ≡ core.old)) }
+        ensures done { IfOk result (λ reply. record { reply = reply; own = self.new; left = input.new } ≡ poll_at I.manner (entry_at self.old number) number room self.old input.old) }
+        ensures err { OnErr result ((self.new ≡ self.old) × (input.new ≡ input.old)) }
     {
         let found = match self.find(number, Entry::POLLED) {
             Ok(found) => found,
             Err(trap) => return Ok(Reply::Trap(trap)),
         };
         match self.table.get_mut(found, Entry::POLLED) {
-            Ok(entry) => polling(alloc, entry, room, core),
+            Ok(entry) => polling(alloc, entry, room, input),
             Err(_) => unreachable!(),
         }
     }
 
     /// A pollable of a reader.
     pub fn subscribe(&mut self, number: u64) -> Result<Reply, OutOfMemory>
-        ensures done { IfOk result (λ reply. (shared : Shared) → record { reply = reply; own = self.new; shared = shared } ≡ subscribe_at (entry_at self.old number) number self.old shared) }
+        ensures done { IfOk result (λ reply. record { reply = reply; own = self.new } ≡ subscribe_at (entry_at self.old number) number self.old) }
         ensures err { OnErr result (self.new ≡ self.old) }
     {
         let reader = match self.find(number, Entry::READER) {
@@ -143,31 +143,31 @@ impl Own {
         }
     }
 
-    pub fn ready(&self, number: u64, core: &mut StdinCore) -> Reply
-        ensures { record { reply = result; own = self.now; shared = core.new } ≡ ready_at (entry_at self.now number) self.now core.old }
+    pub fn ready<I: StandardInput>(&self, number: u64, input: &mut I) -> Reply
+        ensures { record { reply = result; own = self.now; left = input.new } ≡ ready_at I.manner (entry_at self.now number) self.now input.old }
     {
         match self.find(number, Entry::POLLABLE) {
-            Ok(_) => readying(core),
+            Ok(_) => Reply::Truth(input.ready()),
             Err(trap) => Reply::Trap(trap),
         }
     }
 
-    pub fn block(&mut self, number: u64, core: &mut StdinCore) -> Reply
-        ensures { record { reply = result; own = self.new; shared = core.new } ≡ block_at (entry_at self.old number) number self.old core.old }
+    pub fn block<I: StandardInput>(&mut self, number: u64, input: &mut I) -> Reply
+        ensures { record { reply = result; own = self.new; left = input.new } ≡ block_at I.manner (entry_at self.old number) number self.old input.old }
     {
         let found = match self.find(number, Entry::POLLABLE) {
             Ok(found) => found,
             Err(trap) => return Reply::Trap(trap),
         };
         match self.table.get_mut(found, Entry::POLLABLE) {
-            Ok(entry) => blocking(entry, core),
+            Ok(entry) => blocking(entry, input),
             Err(_) => unreachable!(),
         }
     }
 
     /// Takes an entry of any kind out.
     pub fn drop(&mut self, number: u64) -> Reply
-        ensures { (shared : Shared) → record { reply = result; own = self.new; shared = shared } ≡ drop_at (entry_at self.old number) number self.old shared }
+        ensures { record { reply = result; own = self.new } ≡ drop_at (entry_at self.old number) number self.old }
     {
         let Some(narrow) = self.narrow(number) else {
             return Reply::Trap(TrapText::ResourceNotPresent);

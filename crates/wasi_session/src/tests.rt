@@ -219,6 +219,44 @@ fn a_table_holds_its_capacity(rt: HostRuntime) -> Result<(), Fail> {
     )
 }
 
+#[test]
+fn a_pipe_and_a_file_are_read(rt: HostRuntime) -> Result<(), Fail> {
+    let none = Vec::new(rt.alloc());
+    plays(
+        &rt,
+        rt.alloc(),
+        b"pipe P 74686520717569636b2062726f776e20666f78206a756d706564206f76657220746865207468726565206c617a7920646f6773\nguest 0 P\ncall 0 get-stdin\ncall 0 get-stdin\ncall 0 read 0 10\ncall 0 read 1 10\ncall 0 read 0 10\ncall 0 read 1 10\n",
+        b"ab",
+        none,
+        b"ok\nok\nhandle 0\nhandle 1\nbytes 74686520717569636b20\nbytes 62726f776e20666f7820\nbytes 6a756d706564206f7665\nbytes 72207468652074687265\n",
+        b"ab",
+    )?;
+    let none = Vec::new(rt.alloc());
+    plays(
+        &rt,
+        rt.alloc(),
+        b"infile F 6162 t1\nguest 0 F\ncall 0 get-stdin\ncall 0 read 0 0\ncall 0 read 0 5\ncall 0 read 0 5\ncall 0 read 0 5\n",
+        b"",
+        none,
+        b"ok\nok\nhandle 0\nbytes -\nbytes 61\nbytes 62\nclosed\n",
+        b"",
+    )
+}
+
+#[test]
+fn closed_inputs_are_at_their_end(rt: HostRuntime) -> Result<(), Fail> {
+    let none = Vec::new(rt.alloc());
+    plays(
+        &rt,
+        rt.alloc(),
+        b"guest 0 empty\nguest 1 closed\ncall 0 get-stdin\ncall 0 read 0 0\ncall 0 async-stdin\ncall 0 poll-read 1 5\ncall 0 subscribe 0\ncall 0 ready 2\ncall 0 block 2\ncall 0 drop 0\ncall 1 get-stdin\ncall 1 skip 0 1\ncapture\n",
+        b"ab",
+        none,
+        b"ok\nok\nhandle 0\nclosed\nhandle 1\nbytes -\nhandle 2\ntrue\ntrue\ntrap resource has children\nhandle 0\nclosed\nidle\n",
+        b"ab",
+    )
+}
+
 // a source that tells nothing and counts its reads
 #[derive(Drop)]
 struct Counting {

@@ -1,19 +1,24 @@
 ghost use Rattle.std.specs.Prelude.{true, ◌≡◌, ◌^◌, ◌-◌, ◌<◌, ◌≤◌, IfOk, OnOk, OnErr, is_some, Some, None, set, MatchOption, replicate};
 ghost use Rattle.std.specs.Option.{option_map};
+ghost use Rattle.std.specs.Map.{lookup};
+ghost use Rattle.std.specs.Str.{bytes_eq};
 ghost use Rattle.wasi_base.specs.Causes.{Rose};
 ghost use Rattle.wasi_base.specs.Source.{Gives};
 ghost use Rattle.wasi_stdin.specs.Shared.{capture_of, after_capture, given_now};
 ghost use Rattle.wasi_host.specs.Reply.{OnFault};
-ghost use Rattle.wasi_host.specs.Host.{new_guest, with_capacity, new_host, guest_of, put_answered, answer_in, capture_reply, delivery_reply, after_delivery, outcome_reply, IsStep, Fits, size_read};
+ghost use Rattle.wasi_host.specs.Host.{new_guest, with_capacity, new_host, guest_of, put_answered, answer_in, with_stream, capture_reply, delivery_reply, after_delivery, outcome_reply, IsStep, Fits, size_read};
 
 use crate::guest::Guest;
 use crate::room::room_of;
+use crate::streams::Streams;
+use bytes::Bytes;
 use std::alloc::Global;
 use std::marker::Model;
-use wasi_base::{OutOfMemory, Source};
-use wasi_host::Reply;
-use wasi_script::{Call, Input, Line};
+use wasi_base::{MemSource, OutOfMemory, Source};
+use wasi_host::{FileInput, Reply, Stream};
+use wasi_script::{ByteString, Call, Input, Line, Name, ReadPlan};
 use wasi_stdin::{MOST_BYTES, Outcome, StdinCore, deliver_from};
+use wasi_streams::MemoryInputPipe;
 
 fn reply_with(outcome: Outcome) -> Reply
     ensures { result ≡ outcome_reply outcome }
@@ -37,11 +42,36 @@ fn no_guests(alloc: Global) -> Result<Vec<Option<Guest>>, OutOfMemory>
     Ok(guests)
 }
 
+fn copy_input(alloc: Global, input: &Input) -> Result<Input, OutOfMemory>
+    ensures { IfOk result (λ copy. copy ≡ input.now) }
+{
+    match input {
+        Input::Shared => Ok(Input::Shared),
+        Input::Empty => Ok(Input::Empty),
+        Input::Closed => Ok(Input::Closed),
+        Input::Named(name) => {
+            let name = name.copy(alloc)?;
+            Ok(Input::Named(name))
+        }
+    }
+}
+
+fn shared_bytes(alloc: Global, bytes: &ByteString) -> Result<Bytes, OutOfMemory>
+    ensures { IfOk result (λ shared. shared ≡ bytes.now) }
+{
+    let bytes = bytes.to_vec(alloc)?;
+    match Bytes::from_vec(bytes) {
+        Ok(bytes) => Ok(bytes),
+        Err(_) => Err(OutOfMemory),
+    }
+}
+
 /// The shared input and all guests, by their numbers.
 #[derive(Drop)]
 pub struct World {
     core: StdinCore,
     guests: Vec<Option<Guest>>,
+    streams: Streams,
     room: Vec<u8>,
 }
 
@@ -49,14 +79,15 @@ impl Model for World {
     ghost use Rattle.std.specs.Prelude.{◌≡◌, ◌≤◌, length};
     ghost use Rattle.wasi_stdin.specs.contracts.stdin_core.StdinCore.{the_row as core_row};
     ghost use Rattle.wasi_script.specs.contracts.lines.Input.{the_row as input_row};
+    ghost use Rattle.wasi_host.specs.contracts.stream.Stream.{the_row as stream_row};
     ghost use Rattle.wasi_host.specs.Host.{Host};
     ghost use Rattle.wasi_host.specs.Codes.{host_code};
 
     ghost Value = { Host };
 
-    ghost coded = { host_code core_row.coded input_row.coded };
+    ghost coded = { host_code core_row.coded input_row.coded stream_row.coded };
 
-    ghost view = { λ w. record { shared = w.core; guests = w.guests.items } };
+    ghost view = { λ w. record { shared = w.core; guests = w.guests.items; streams = w.streams } };
 
     ghost invariant = { λ w. (length w.guests.items ≡ 64) × (65536 ≤ length w.room.items) };
 }
@@ -68,14 +99,24 @@ impl World {
         let core = StdinCore::new(alloc)?;
         let room = room_of(alloc, MOST_BYTES)?;
         let guests = no_guests(alloc)?;
-        Ok(World { core, guests, room })
+        let streams = Streams::new(alloc);
+        Ok(World {
+            core,
+            guests,
+            streams,
+            room,
+        })
     }
 
-    fn declare(&mut self, alloc: Global, guest: u32, input: Input)
+    fn declare(&mut self, alloc: Global, guest: u32, input: &Input) -> Result<Reply, OutOfMemory>
         requires { guest < 64 }
-        ensures { self.new ≡ record self.old { guests = set self.old.guests guest (Some (new_guest input)) } }
+        ensures reply { IfOk result (λ reply. reply ≡ Reply.Ok) }
+        ensures after { OnOk result (self.new ≡ record self.old { guests = set self.old.guests guest (Some (new_guest input.now)) }) }
+        ensures err { OnErr result (self.new ≡ self.old) }
     {
+        let input = copy_input(alloc, input)?;
         self.guests[guest as usize] = Some(Guest::new(alloc, input));
+        Ok(Reply::Ok)
     }
 
     fn set_capacity(&mut self, alloc: Global, guest: u32, capacity: u32)
@@ -100,14 +141,44 @@ impl World {
         }
     }
 
+    fn pipe(&mut self, alloc: Global, name: &Name, bytes: &ByteString) -> Result<Reply, OutOfMemory>
+        requires { lookup (bytes_eq name.now) self.old.streams ≡ None }
+        ensures reply { IfOk result (λ reply. reply ≡ Reply.Ok) }
+        ensures after { OnOk result (self.new ≡ with_stream name.now (Stream.Pipe bytes.now) self.old) }
+        ensures err { OnErr result (self.new ≡ self.old) }
+    {
+        let bytes = shared_bytes(alloc, bytes)?;
+        let pipe = Stream::Pipe(MemoryInputPipe::new(bytes));
+        self.streams.add(alloc, name, pipe)?;
+        Ok(Reply::Ok)
+    }
+
+    fn in_file(
+        &mut self,
+        alloc: Global,
+        name: &Name,
+        bytes: &ByteString,
+        plan: &ReadPlan,
+    ) -> Result<Reply, OutOfMemory>
+        requires { lookup (bytes_eq name.now) self.old.streams ≡ None }
+        ensures reply { IfOk result (λ reply. reply ≡ Reply.Ok) }
+        ensures after { OnOk result (self.new ≡ with_stream name.now (Stream.InFile (record { left = bytes.now; plan = plan.now })) self.old) }
+        ensures err { OnErr result (self.new ≡ self.old) }
+    {
+        let source = MemSource::new(bytes.to_vec(alloc)?, plan.to_vec(alloc)?);
+        let file = Stream::InFile(FileInput::new(source));
+        self.streams.add(alloc, name, file)?;
+        Ok(Reply::Ok)
+    }
+
     fn call(&mut self, alloc: Global, guest: u32, call: Call) -> Result<Reply, OutOfMemory>
         requires { is_some (guest_of self.old guest) ≡ true }
-        ensures reply { IfOk result (λ reply. reply ≡ (answer_in call (guest_of self.old guest) self.old.shared).reply) }
-        ensures after { OnOk result (self.new ≡ put_answered self.old guest (answer_in call (guest_of self.old guest) self.old.shared)) }
+        ensures reply { IfOk result (λ reply. reply ≡ (answer_in call (guest_of self.old guest) self.old.shared self.old.streams).reply) }
+        ensures after { OnOk result (self.new ≡ put_answered self.old guest (answer_in call (guest_of self.old guest) self.old.shared self.old.streams)) }
         ensures err { OnErr result (self.new ≡ self.old) }
     {
         match &mut self.guests[guest as usize] {
-            Some(guest) => guest.call(alloc, call, &mut self.core),
+            Some(guest) => guest.call(alloc, call, &mut self.core, &mut self.streams),
             None => unreachable!(),
         }
     }
@@ -142,16 +213,15 @@ impl World {
         ensures fault { IfOk result (λ reply. OnFault reply (Rose (I.faults stdin.old) (I.faults stdin.new))) }
         ensures err { OnErr result ((self.new ≡ self.old) × (stdin.new ≡ stdin.old)) }
     {
-        match *line {
-            Line::Guest { guest, input } => {
-                self.declare(alloc, guest, input);
-                Ok(Reply::Ok)
-            }
+        match line {
+            Line::Pipe { name, bytes } => self.pipe(alloc, name, bytes),
+            Line::InFile { name, bytes, plan } => self.in_file(alloc, name, bytes, plan),
+            Line::Guest { guest, input } => self.declare(alloc, *guest, input),
             Line::Capacity { guest, capacity } => {
-                self.set_capacity(alloc, guest, capacity);
+                self.set_capacity(alloc, *guest, *capacity);
                 Ok(Reply::Ok)
             }
-            Line::Call { guest, call } => self.call(alloc, guest, call),
+            Line::Call { guest, call } => self.call(alloc, *guest, *call),
             Line::Capture => Ok(self.capture()),
             Line::Deliver => Ok(self.deliver(stdin)),
         }

@@ -1,0 +1,65 @@
+ghost use Rattle.std.specs.Prelude.{◌≡◌, IfOk, OnErr};
+ghost use Rattle.wasi_streams.specs.Answers.{OnNoMemory, UnlessNoMemory};
+ghost use Rattle.wasi_streams.specs.Files.{file_read, after_file_read, file_skip, file_poll_read};
+
+use bytes::Bytes;
+use std::alloc::Global;
+use std::marker::Model;
+use wasi_base::{MemSource, OutOfMemory, Polled, StreamError};
+use wasi_streams::{InputFile, InputStream, MemoryInputPipe};
+
+/// A file that is read, in memory. Contracts see what its source tells.
+#[derive(Drop)]
+pub struct FileInput {
+    file: InputFile<MemSource>,
+}
+
+impl Model for FileInput {
+    ghost use Rattle.wasi_base.specs.Source.{Told};
+
+    ghost Value = { Told };
+
+    ghost view = { λ f. f.file.source.told };
+}
+
+impl FileInput {
+    pub fn new(source: MemSource) -> FileInput
+        ensures { result ≡ source.told }
+    {
+        FileInput {
+            file: InputFile::new(source),
+        }
+    }
+
+    pub fn read(&mut self, alloc: Global, size: u64) -> Result<Bytes, StreamError>
+        ensures read { UnlessNoMemory result ((result ≡ file_read self.old size) × (self.new ≡ after_file_read self.old size)) }
+        ensures memory { OnNoMemory result (self.new ≡ self.old) }
+    {
+        self.file.read(alloc, size)
+    }
+
+    pub fn skip(&mut self, size: u64) -> Result<u64, StreamError>
+        ensures answer { result ≡ file_skip self.old size }
+        ensures after { self.new ≡ after_file_read self.old size }
+    {
+        self.file.skip(size)
+    }
+
+    pub fn poll_read(&mut self, alloc: Global, room: u64) -> Result<Polled<Bytes>, OutOfMemory>
+        ensures read { IfOk result (λ polled. (polled ≡ file_poll_read self.old room) × (self.new ≡ after_file_read self.old room)) }
+        ensures memory { OnErr result (self.new ≡ self.old) }
+    {
+        self.file.poll_read(alloc, room)
+    }
+}
+
+/// What guests read that is not the shared input.
+#[derive(Drop)]
+pub enum Stream {
+    /// An input at its end, which no line declares.
+    Closed,
+    /// `pipe`: the bytes that are left.
+    Pipe(MemoryInputPipe),
+    /// `infile`: a source with a plan.
+    InFile(FileInput),
+}

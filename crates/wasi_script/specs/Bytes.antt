@@ -1,0 +1,29 @@
+-- Fields of bytes.
+use Rattle.std.specs.Prelude.{ℕ, cond, nat_le, nat_eq, List, [], ◌∷◌, length, slice_get, replicate, Option, Some, None, codes}
+use Rattle.std.specs.List.{slice_split}
+use Rattle.std.specs.Option.{option_and_then, option_or}
+use Rattle.std.specs.Result.{result_ok}
+use Rattle.std.specs.Str.{bytes_eq}
+use Rattle.hex.specs.Hex.{decode_of, decode_sized}
+use Rattle.wasi_script.specs.Fields.{count_of, with_first, with_last}
+
+-- hexadecimal digits of either case, two for each byte; no digits are no form
+abbrev pub hex_of : List ℕ → Option (List ℕ)
+hex_of [] = None
+hex_of (digit ∷ digits) = result_ok (decode_of (digit ∷ digits))
+
+-- two digits
+abbrev pub byte_of : List ℕ → Option ℕ
+byte_of text = option_and_then (λ bytes. slice_get bytes 0) (result_ok (decode_sized text 1))
+
+-- a count and a byte, which stand for the byte so many times
+abbrev pub repeated_of : List (List ℕ) → Option (List ℕ)
+repeated_of = with_first count_of (λ count. with_last byte_of (λ byte. replicate count byte))
+
+-- `-` for none, `K*HH`, or digits
+abbrev pub byte_string_of : List ℕ → Option (List ℕ)
+byte_string_of text = cond (bytes_eq text (codes "-")) (Some []) (option_or (repeated_of (slice_split (λ byte. nat_eq byte 42) text)) (hex_of text))
+
+-- at most 1048576 bytes
+abbrev pub declared_bytes_of : List ℕ → Option (List ℕ)
+declared_bytes_of text = option_and_then (λ bytes. cond (nat_le (length bytes) 1048576) (Some bytes) None) (byte_string_of text)
