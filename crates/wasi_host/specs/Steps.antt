@@ -302,17 +302,17 @@ count_step (line.Call n c) old g = omega (arith, called_count c (guest_of old n)
 count_step line.Capture old g = omega (arith, captured_count (capture_of old.shared) old.shared)
 count_step line.Deliver old g = delivery_count old.shared.captured old.shared g
 
-cons_at : (steps : List Line) (i : ℕ) (d : Line) → i < length steps → drop i steps ≡ get_or steps i d ∷ drop (i + 1) steps
-cons_at steps i d h = rw (add-one) (drop-cons steps i d h)
+cons_at : (steps : List Line) (i : ℕ) (step : Line) → i < length steps → get_or steps i step ≡ step → drop i steps ≡ step ∷ drop (i + 1) steps
+cons_at steps i step h is = rw (add-one) (drop-cons steps i step h ∙ ap (λ step. step ∷ drop (suc i) steps) is)
 
-pub go_on : (before after : Option Told) (old new : Host) (text more : List ℕ) (steps : List Line) (i : ℕ) (d : Line) (answer : Reply) (whole : List ℕ) (last : Told) → i < length steps → SoFar before old text (drop i steps) whole last → IsStep before after old new (get_or steps i d) answer → more ≡ text ++ reply_line answer → SoFar after new more (drop (i + 1) steps) whole last
-go_on before after old new text more steps i d answer whole last lt so_far is more_is =
-    one_more before after old new text more (get_or steps i d) answer (drop (i + 1) steps) whole last (subst (λ rest. SoFar before old text rest whole last) (cons_at steps i d lt) so_far) is more_is
+pub go_on : (before after : Option Told) (old new : Host) (text more : List ℕ) (steps : List Line) (i : ℕ) (step : Line) (answer : Reply) (whole : List ℕ) (last : Told) → i < length steps → get_or steps i step ≡ step → SoFar before old text (drop i steps) whole last → IsStep before after old new step answer → more ≡ text ++ reply_line answer → SoFar after new more (drop (i + 1) steps) whole last
+go_on before after old new text more steps i step answer whole last lt at so_far is more_is =
+    one_more before after old new text more step answer (drop (i + 1) steps) whole last (subst (λ rest. SoFar before old text rest whole last) (cons_at steps i step lt at) so_far) is more_is
 
-pub stand_on : (old new : Host) (g : Given) (steps : List Line) (i : ℕ) (d : Line) → i < length steps → length old.guests ≡ 64 → AllStand (names_of old) (drop i steps) → new ≡ host_after (get_or steps i d) old g → AllStand (names_of new) (drop (i + 1) steps)
-stand_on old new g steps i d lt places stand is =
-    let both : AllStand (names_of old) (get_or steps i d ∷ drop (i + 1) steps) = subst (λ rest. AllStand (names_of old) rest) (cons_at steps i d lt) stand in
-    rw (is, names_step (get_or steps i d) old g places both.0) both.1
+pub stand_on : (old new : Host) (g : Given) (steps : List Line) (i : ℕ) (step : Line) → i < length steps → get_or steps i step ≡ step → length old.guests ≡ 64 → AllStand (names_of old) (drop i steps) → new ≡ host_after step old g → AllStand (names_of new) (drop (i + 1) steps)
+stand_on old new g steps i step lt at places stand is =
+    let both : AllStand (names_of old) (step ∷ drop (i + 1) steps) = subst (λ rest. AllStand (names_of old) rest) (cons_at steps i step lt at) stand in
+    rw (is, names_step step old g places both.0) both.1
 
 ended_at : (now : Option Told) (host : Host) (text : List ℕ) (rest : List Line) (whole : List ℕ) (last : Told) → rest ≡ [] → SoFar now host text rest whole last → (text ≡ whole) × (now ≡ Some last)
 ended_at now host text rest whole last none so_far =

@@ -1,7 +1,6 @@
-use Rattle.std.proofs.Common.{◌∙◌, get_or, refl, arith}
+use Rattle.std.proofs.Common.{◌≡◌, ◌∙◌, get_or, refl, sym, arith}
 use Rattle.wasi_stdin.specs.Shared.{given_now}
-use Rattle.wasi_script.specs.declared.lines.Line.TheVariants.{Guest}
-use Rattle.wasi_script.specs.declared.lines.Input.TheVariants.{Shared}
+use Rattle.wasi_script.specs.declared.lines.Line.{Line}
 use Rattle.wasi_host.specs.Steps.{go_on, stand_on, at_end, names_new, places_step, count_step}
 use Rattle.wasi_session.proofs.run.run_steps.Goals as goal
 
@@ -21,12 +20,14 @@ loop-line-preserved g c =
     let given = given_now new.shared in
     let steps = c.args.steps.now in
     let i = c.loop-line.line-index in
+    let line : Line = c.line-item.result in
+    let at : get_or steps i line ≡ line = sym c.line-item.is in
     let is = c.in_ok-step.ensures.step in
     record {
-      stand = stand_on old new given steps i (Guest 0 Shared) c.loop-line-test.true c.loop-line.invariant.places c.loop-line.invariant.stand is.host_is;
-      places = rw is.host_is (places_step (get_or steps i (Guest 0 Shared)) old given ∙ c.loop-line.invariant.places);
-      count = rw is.host_is (omega (arith, count_step (get_or steps i (Guest 0 Shared)) old given));
-      told = λ t e. go_on _ _ old new c.loop-line.text.items c.step.new.reply.items steps i (Guest 0 Shared) _ _ _ c.loop-line-test.true (c.loop-line.invariant.told t e) is c.in_ok-step.ensures.text;
+      stand = stand_on old new given steps i line c.loop-line-test.true at c.loop-line.invariant.places c.loop-line.invariant.stand is.host_is;
+      places = rw is.host_is (places_step line old given ∙ c.loop-line.invariant.places);
+      count = rw is.host_is (omega (arith, count_step line old given));
+      told = λ t e. go_on _ _ old new c.loop-line.text.items c.step.new.reply.items steps i line _ _ _ c.loop-line-test.true at (c.loop-line.invariant.told t e) is c.in_ok-step.ensures.text;
       later = omega (arith, c.in_ok-step.ensures.later, c.loop-line.invariant.later);
     }
 
