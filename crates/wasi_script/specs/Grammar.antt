@@ -2,9 +2,9 @@
 use Rattle.std.specs.Prelude.{◌≡◌, ℕ, ◌+◌, Bool, true, false, cond, not, ◌&&◌, nat_eq, nat_le, nat_lt, List, [], ◌∷◌, ◌++◌, length, Option, Some, None, codes}
 use Rattle.std.specs.List.{slice_split}
 use Rattle.std.specs.Map.{lookup}
-use Rattle.std.specs.Option.{is_some, option_and_then, option_map}
+use Rattle.std.specs.Option.{is_some, option_map}
 use Rattle.std.specs.Str.{bytes_eq}
-use Rattle.wasi_script.specs.Fields.{words_of, guest_of, number_of, capacity_of, exit_code_of, is_at_end, only_field, with_first, with_last}
+use Rattle.wasi_script.specs.Fields.{words_of, guest_of, number_of, capacity_of, exit_code_of, is_at_end, with_first, with_last}
 use Rattle.wasi_script.specs.Name.{name_of}
 use Rattle.wasi_script.specs.Bytes.{declared_bytes_of}
 use Rattle.wasi_script.specs.Plans.{read_plan_of}

@@ -1,8 +1,12 @@
 pub mod Bytes
+pub mod Declarations
 pub mod Fields
 pub mod Grammar
 pub mod Kept
 pub mod Name
+pub mod Parts
 pub mod Plans
+pub mod Reads
 pub mod Refused
 pub mod Standing
+pub mod Streams

@@ -1,5 +1,11 @@
 ghost use Rattle.std.specs.Prelude.{◌≡◌, length, IfOk};
+ghost use Rattle.wasi_script.specs.Bytes.{hex_of, byte_of, repeated_of, byte_string_of, declared_bytes_of};
+ghost use Rattle.wasi_script.specs.Reads.{Reads};
 
+use crate::numbers::parse_count;
+use crate::parts::{Parts, is, only};
+use crate::refusal::Refusal;
+use hex::{FromHex, FromHexError};
 use std::alloc::Global;
 use std::marker::Model;
 use wasi_base::OutOfMemory;
@@ -50,5 +56,68 @@ impl ByteString {
                 Ok(bytes)
             }
         }
+    }
+
+    /// The bytes that a text stands for: `-`, hexadecimal digits, or `K*HH`.
+    pub(crate) fn read(alloc: Global, text: &[u8]) -> Result<ByteString, Refusal>
+        ensures { Reads result (byte_string_of text.now) }
+    {
+        if is(text, b"-") {
+            let kept = Kept::Listed(Vec::new(alloc));
+            return Ok(ByteString { kept });
+        }
+        match ByteString::repeated(Parts::new(text, b'*')) {
+            Some(bytes) => Ok(bytes),
+            None => ByteString::listed(alloc, text),
+        }
+    }
+
+    /// The same, where they are at most 1048576.
+    pub(crate) fn read_declared(alloc: Global, text: &[u8]) -> Result<ByteString, Refusal>
+        ensures { Reads result (declared_bytes_of text.now) }
+    {
+        let bytes = ByteString::read(alloc, text)?;
+        if bytes.len() <= 1048576 {
+            Ok(bytes)
+        } else {
+            Err(Refusal::Invalid)
+        }
+    }
+
+    // `K*HH`, by its parts: K times the byte HH
+    fn repeated(mut parts: Parts) -> Option<ByteString>
+        ensures { result ≡ repeated_of parts.entry }
+    {
+        let count = parse_count(parts.next()?)?;
+        let byte = parse_byte(only(parts)?)?;
+        Some(ByteString {
+            kept: Kept::Repeated { count, byte },
+        })
+    }
+
+    // one byte at least, in hexadecimal
+    fn listed(alloc: Global, text: &[u8]) -> Result<ByteString, Refusal>
+        ensures { Reads result (hex_of text.now) }
+    {
+        if text.is_empty() {
+            return Err(Refusal::Invalid);
+        }
+        match hex::decode(alloc, text) {
+            Ok(bytes) => Ok(ByteString {
+                kept: Kept::Listed(bytes),
+            }),
+            Err(FromHexError::OutOfMemory) => Err(Refusal::OutOfMemory),
+            Err(_) => Err(Refusal::Invalid),
+        }
+    }
+}
+
+// two hexadecimal digits
+fn parse_byte(text: &[u8]) -> Option<u8>
+    ensures { result ≡ byte_of text.now }
+{
+    match <[u8; 1] as FromHex>::from_hex(text) {
+        Ok(bytes) => Some(bytes[0]),
+        Err(_) => None,
     }
 }

@@ -1,4 +1,16 @@
-use crate::lines::Line;
+ghost use Rattle.std.specs.Prelude.{◌≡◌, IfOk};
+ghost use Rattle.wasi_script.specs.Grammar.{call_of, line_of, pipe_of, in_file_of, guest_line_of, capacity_line_of, call_line_of, reading_of, exit_of, input_of};
+ghost use Rattle.wasi_script.specs.Reads.{Reads};
+
+use crate::bytes::ByteString;
+use crate::lines::{Call, ExitStatus, Input, Line};
+use crate::name::Name;
+use crate::numbers::{parse_capacity, parse_exit_code, parse_guest, parse_number};
+use crate::parts::{Parts, is, is_done, only};
+use crate::plan::ReadPlan;
+use crate::refusal::Refusal;
+use std::alloc::Global;
+use wasi_base::OutOfMemory;
 
 /// What a line of text is.
 #[derive(Drop)]
@@ -7,4 +19,157 @@ pub enum Reading {
     Note,
     Step(Line),
     Invalid,
+}
+
+/// What a line is by itself, whatever was declared before.
+pub fn read_line(alloc: Global, text: &[u8]) -> Result<Reading, OutOfMemory>
+    ensures { IfOk result (λ reading. reading ≡ reading_of text.now) }
+{
+    match text {
+        [] | [b'#', ..] => Ok(Reading::Note),
+        _ => match parse_line(alloc, Parts::new(text, b' ')) {
+            Ok(line) => Ok(Reading::Step(line)),
+            Err(Refusal::Invalid) => Ok(Reading::Invalid),
+            Err(Refusal::OutOfMemory) => Err(OutOfMemory),
+        },
+    }
+}
+
+fn parse_line(alloc: Global, mut words: Parts) -> Result<Line, Refusal>
+    ensures { Reads result (line_of words.entry) }
+{
+    let word = words.next().ok_or(Refusal::Invalid)?;
+    if is(word, b"pipe") {
+        parse_pipe(alloc, words)
+    } else if is(word, b"infile") {
+        parse_in_file(alloc, words)
+    } else if is(word, b"guest") {
+        parse_guest_line(alloc, words)
+    } else if is(word, b"capacity") {
+        parse_capacity_line(words).ok_or(Refusal::Invalid)
+    } else if is(word, b"call") {
+        parse_call_line(words).ok_or(Refusal::Invalid)
+    } else if is(word, b"capture") {
+        is_done(words)
+            .then_some(Line::Capture)
+            .ok_or(Refusal::Invalid)
+    } else if is(word, b"deliver") {
+        is_done(words)
+            .then_some(Line::Deliver)
+            .ok_or(Refusal::Invalid)
+    } else {
+        Err(Refusal::Invalid)
+    }
+}
+
+fn parse_pipe(alloc: Global, mut words: Parts) -> Result<Line, Refusal>
+    ensures { Reads result (pipe_of words.entry) }
+{
+    let name = Name::read(alloc, words.next().ok_or(Refusal::Invalid)?)?;
+    let bytes = ByteString::read_declared(alloc, only(words).ok_or(Refusal::Invalid)?)?;
+    Ok(Line::Pipe { name, bytes })
+}
+
+fn parse_in_file(alloc: Global, mut words: Parts) -> Result<Line, Refusal>
+    ensures { Reads result (in_file_of words.entry) }
+{
+    let name = Name::read(alloc, words.next().ok_or(Refusal::Invalid)?)?;
+    let bytes = ByteString::read_declared(alloc, words.next().ok_or(Refusal::Invalid)?)?;
+    let plan = ReadPlan::read(alloc, only(words).ok_or(Refusal::Invalid)?)?;
+    Ok(Line::InFile { name, bytes, plan })
+}
+
+fn parse_guest_line(alloc: Global, mut words: Parts) -> Result<Line, Refusal>
+    ensures { Reads result (guest_line_of words.entry) }
+{
+    let word = words.next().ok_or(Refusal::Invalid)?;
+    let guest = parse_guest(word).ok_or(Refusal::Invalid)?;
+    let input = parse_input(alloc, only(words).ok_or(Refusal::Invalid)?)?;
+    Ok(Line::Guest { guest, input })
+}
+
+fn parse_capacity_line(mut words: Parts) -> Option<Line>
+    ensures { result ≡ capacity_line_of words.entry }
+{
+    let guest = parse_guest(words.next()?)?;
+    let capacity = parse_capacity(only(words)?)?;
+    Some(Line::Capacity { guest, capacity })
+}
+
+fn parse_call_line(mut words: Parts) -> Option<Line>
+    ensures { result ≡ call_line_of words.entry }
+{
+    let guest = parse_guest(words.next()?)?;
+    let call = parse_call(words)?;
+    Some(Line::Call { guest, call })
+}
+
+fn parse_call(mut words: Parts) -> Option<Call>
+    ensures { result ≡ call_of words.entry }
+{
+    let name = words.next()?;
+    if is(name, b"get-stdin") {
+        is_done(words).then_some(Call::GetStdin)
+    } else if is(name, b"async-stdin") {
+        is_done(words).then_some(Call::AsyncStdin)
+    } else if is(name, b"read") {
+        let number = parse_number(words.next()?)?;
+        let size = parse_number(only(words)?)?;
+        Some(Call::Read { number, size })
+    } else if is(name, b"skip") {
+        let number = parse_number(words.next()?)?;
+        let size = parse_number(only(words)?)?;
+        Some(Call::Skip { number, size })
+    } else if is(name, b"poll-read") {
+        let number = parse_number(words.next()?)?;
+        let room = parse_number(only(words)?)?;
+        Some(Call::PollRead { number, room })
+    } else if is(name, b"subscribe") {
+        let number = parse_number(only(words)?)?;
+        Some(Call::Subscribe { number })
+    } else if is(name, b"ready") {
+        let number = parse_number(only(words)?)?;
+        Some(Call::Ready { number })
+    } else if is(name, b"block") {
+        let number = parse_number(only(words)?)?;
+        Some(Call::Block { number })
+    } else if is(name, b"drop") {
+        let number = parse_number(only(words)?)?;
+        Some(Call::Drop { number })
+    } else if is(name, b"exit") {
+        let status = parse_status(only(words)?)?;
+        Some(Call::Exit { status })
+    } else if is(name, b"exit-code") {
+        let code = parse_exit_code(only(words)?)?;
+        Some(Call::ExitCode { code })
+    } else {
+        None
+    }
+}
+
+fn parse_input(alloc: Global, word: &[u8]) -> Result<Input, Refusal>
+    ensures { Reads result (input_of word.now) }
+{
+    if is(word, b"shared") {
+        Ok(Input::Shared)
+    } else if is(word, b"empty") {
+        Ok(Input::Empty)
+    } else if is(word, b"closed") {
+        Ok(Input::Closed)
+    } else {
+        let name = Name::read(alloc, word)?;
+        Ok(Input::Named(name))
+    }
+}
+
+fn parse_status(word: &[u8]) -> Option<ExitStatus>
+    ensures { result ≡ exit_of word.now }
+{
+    if is(word, b"ok") {
+        Some(ExitStatus::Ok)
+    } else if is(word, b"err") {
+        Some(ExitStatus::Err)
+    } else {
+        None
+    }
 }

@@ -1,12 +1,16 @@
-//! Scratch.
+//! The language of session scripts: its lines, and the parser that gives a script's steps.
 #![tactic(auto)]
 
 mod bytes;
+mod declarations;
 mod forms;
 mod lines;
 mod name;
+mod numbers;
 mod parse;
+mod parts;
 mod plan;
+mod refusal;
 mod streams;
 
 pub use bytes::ByteString;
@@ -15,3 +19,6 @@ pub use name::Name;
 pub use parse::{Script, ScriptError, parse_script};
 pub use plan::ReadPlan;
 pub use streams::Direction;
+
+#[cfg(test)]
+mod tests;

@@ -53,7 +53,10 @@ pub enum Call {
 #[derive(Drop)]
 pub enum Line {
     /// `pipe NAME BYTES`: there is an input that gives these bytes, at most 1048576.
-    Pipe { name: Name, bytes: ByteString },
+    Pipe {
+        name: Name,
+        bytes: ByteString,
+    },
     /// `infile NAME BYTES PLAN`: there is an input over a file of these bytes, at most 1048576,
     /// whose reads go by the plan.
     InFile {
@@ -62,11 +65,20 @@ pub enum Line {
         plan: ReadPlan,
     },
     /// `guest G IN`: there is a guest of this number, from 0 to 63.
-    Guest { guest: u32, input: Input },
+    Guest {
+        guest: u32,
+        input: Input,
+    },
     /// `capacity G NUM`: the most entries that the guest's table holds, from 1 to 65536.
-    Capacity { guest: u32, capacity: u32 },
+    Capacity {
+        guest: u32,
+        capacity: u32,
+    },
     /// `call G ..`: the guest makes a call.
-    Call { guest: u32, call: Call },
+    Call {
+        guest: u32,
+        call: Call,
+    },
     /// `capture`: the worker takes over what a guest asked for.
     Capture,
     /// `deliver`: the worker reads what was captured, and hands it in.

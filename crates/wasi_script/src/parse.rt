@@ -1,8 +1,12 @@
-ghost use Rattle.std.specs.Prelude.{◌≡◌, ◌≤◌, ◌<◌, ◌↔◌, [], Some, length, slice_get, IsTrue, IfOk, IfErr};
-ghost use Rattle.wasi_script.specs.Grammar.{parsed, Steps, Bad, AllStand, no_names};
+ghost use Rattle.std.specs.Prelude.{◌≡◌, ◌≤◌, ◌<◌, ◌↔◌, ◌∷◌, ◌++◌, [], Some, length, slice_get, IsTrue, IfOk, IfErr, OnOk};
+ghost use Rattle.wasi_script.specs.Declarations.{names_in};
+ghost use Rattle.wasi_script.specs.Grammar.{parsed, Steps, Bad, reading_after, AllStand, no_names};
 ghost use Rattle.wasi_script.specs.Refused.{OnBadLine};
 
+use crate::declarations::Declarations;
+use crate::forms::{Reading, read_line};
 use crate::lines::Line;
+use crate::parts::Parts;
 use std::alloc::Global;
 use std::marker::Model;
 use thiserror::Error;
@@ -79,7 +83,40 @@ pub fn parse_script(alloc: Global, bytes: &[u8]) -> Result<Script, ScriptError>
     ensures stand { IfOk result (λ script. AllStand no_names script) }
     ensures bad { IfErr result (λ error. OnBadLine error (λ number. parsed bytes.now ≡ Bad number)) }
 {
-    let _ = &alloc;
-    let _ = &bytes;
-    Err(ScriptError::OutOfMemory)
+    let mut steps = Vec::new(alloc);
+    let mut declarations = Declarations::none(alloc);
+    let mut number: u64 = 0;
+    for text in Parts::new(bytes, b'\n') {
+        number += 1;
+        match read_after(alloc, &declarations, text)? {
+            Reading::Note => {}
+            Reading::Step(line) => {
+                declarations.declare(alloc, &line)?;
+                keep(&mut steps, line)?;
+            }
+            Reading::Invalid => return Err(ScriptError::BadLine(number)),
+        }
+    }
+    Ok(Script { steps })
+}
+
+fn keep(steps: &mut Vec<Line>, line: Line) -> Result<(), OutOfMemory>
+    ensures { OnOk result (steps.new.items ≡ steps.old.items ++ line ∷ []) }
+{
+    steps.push(line)?;
+    Ok(())
+}
+
+// What a line is after the lines so far.
+fn read_after(
+    alloc: Global,
+    declarations: &Declarations,
+    text: &[u8],
+) -> Result<Reading, OutOfMemory>
+    ensures { IfOk result (λ reading. reading ≡ reading_after (names_in declarations.now) text.now) }
+{
+    match read_line(alloc, text)? {
+        Reading::Step(line) if !declarations.allow(&line) => Ok(Reading::Invalid),
+        reading => Ok(reading),
+    }
 }

@@ -1,8 +1,13 @@
 ghost use Rattle.std.specs.Prelude.{◌≡◌, ℕ, List, Option, IfOk};
+ghost use Rattle.wasi_script.specs.Plans.{plan_of, read_plan_of, take_or_fail};
+ghost use Rattle.wasi_script.specs.Reads.{Reads, ReadsItems};
 
+use crate::numbers::parse_number;
+use crate::parts::{Parts, is};
+use crate::refusal::Refusal;
 use std::alloc::Global;
 use std::marker::Model;
-use wasi_base::{OutOfMemory, Plan};
+use wasi_base::{IoKind, OutOfMemory, Plan};
 
 /// What an input's source does at each read: its plan, of at most 1024 items.
 #[derive(Drop)]
@@ -27,4 +32,52 @@ impl ReadPlan {
         let items = Vec::from_slice(alloc, self.items.as_slice())?;
         Ok(items)
     }
+
+    /// The plan that a text stands for.
+    pub(crate) fn read(alloc: Global, text: &[u8]) -> Result<ReadPlan, Refusal>
+        ensures { Reads result (read_plan_of text.now) }
+    {
+        let items = read_items(alloc, text)?;
+        Ok(ReadPlan { items })
+    }
+}
+
+/// An item of a plan, which stands between commas.
+trait Item: Sized + Drop {
+    /// What a text stands for.
+    ghost meaning: { List ℕ → Option Self };
+
+    fn read(text: &[u8]) -> Option<Self>
+        ensures { result ≡ meaning text.now };
+}
+
+impl Item for Plan {
+    ghost meaning = { take_or_fail };
+
+    // `tNUM` or `fKIND`
+    fn read(text: &[u8]) -> Option<Plan> {
+        match text {
+            [b't', count @ ..] => Some(Plan::Take(parse_number(count)?)),
+            [b'f', kind @ ..] => Some(Plan::Fail(IoKind::of_name(kind)?)),
+            _ => None,
+        }
+    }
+}
+
+// `-` for no items, or up to 1024 of them
+fn read_items<T: Item>(alloc: Global, text: &[u8]) -> Result<Vec<T>, Refusal>
+    ensures { ReadsItems result (plan_of T.meaning text.now) }
+{
+    let mut items = Vec::new(alloc);
+    if is(text, b"-") {
+        return Ok(items);
+    }
+    for word in Parts::new(text, b',') {
+        if items.len() == 1024 {
+            return Err(Refusal::Invalid);
+        }
+        let item = T::read(word).ok_or(Refusal::Invalid)?;
+        items.push(item)?;
+    }
+    Ok(items)
 }

@@ -1,0 +1,43 @@
+use std::alloc::{AllocError, AllocFailed};
+use wasi_base::OutOfMemory;
+
+/// Why a part of a line isn't read.
+#[derive(Clone, Copy, Debug, PartialEq, Eq, Drop)]
+pub enum Refusal {
+    /// It is of no form.
+    Invalid,
+    OutOfMemory,
+}
+
+impl From<OutOfMemory> for Refusal {
+    ghost use Rattle.std.specs.Prelude.{◌≡◌};
+    ghost use Rattle.wasi_script.specs.declared.refusal.Refusal.TheVariants as refusal;
+
+    ghost from_gives = { λ _ result. result ≡ refusal.OutOfMemory };
+
+    fn from(_: OutOfMemory) -> Refusal {
+        Refusal::OutOfMemory
+    }
+}
+
+impl From<AllocError> for Refusal {
+    ghost use Rattle.std.specs.Prelude.{◌≡◌};
+    ghost use Rattle.wasi_script.specs.declared.refusal.Refusal.TheVariants as refusal;
+
+    ghost from_gives = { λ _ result. result ≡ refusal.OutOfMemory };
+
+    fn from(_: AllocError) -> Refusal {
+        Refusal::OutOfMemory
+    }
+}
+
+impl<T: Drop> From<AllocFailed<T>> for Refusal {
+    ghost use Rattle.std.specs.Prelude.{◌≡◌};
+    ghost use Rattle.wasi_script.specs.declared.refusal.Refusal.TheVariants as refusal;
+
+    ghost from_gives = { λ _ result. result ≡ refusal.OutOfMemory };
+
+    fn from(_: AllocFailed<T>) -> Refusal {
+        Refusal::OutOfMemory
+    }
+}
