@@ -14,3 +14,4 @@ pub mod Owned
 pub mod Rules
 pub mod Lines
 pub mod Headline
+pub mod Reach

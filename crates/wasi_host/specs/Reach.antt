@@ -28,7 +28,7 @@ other_test n name key apart same = by (bytes_eq name key) refl
   where
     by : (b : Bool) → bytes_eq name key ≡ b → b ≡ false
     by false e = refl
-    by true e = ?
+    by true e = absurd (true≢false (sym ((bytes_eq-Decides n name).1 ((bytes_eq-Decides n key).0 same ∙ sym ((bytes_eq-Decides name key).0 e))) ∙ apart))
 
 found_still : (n name : List ℕ) (streams : Streams) (it : Stream) → bytes_eq n name ≡ false → lookup (bytes_eq name) (set_value (bytes_eq n) streams it) ≡ lookup (bytes_eq name) streams
 found_still n name [] it apart = refl

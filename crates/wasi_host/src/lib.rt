@@ -10,7 +10,7 @@ mod stream;
 mod text;
 
 pub use entry::Entry;
-pub use laws::{a_run_of_the_host, lines_fix_replies};
+pub use laws::{a_run_of_the_host, calls_stay_in_reach, lines_fix_replies};
 pub use piece::Piece;
 pub use reply::Reply;
 pub use stream::{FileInput, Stream};
