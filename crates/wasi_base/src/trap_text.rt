@@ -31,10 +31,10 @@ pub enum TrapText {
     ConcurrentReads,
     /// Another owner has the turn to read, and this call was to skip.
     ConcurrentSkips,
-    /// Another owner has the turn to write.
-    ConcurrentWrites,
     /// Another owner has the turn to write, and this call was to check what it may write.
     ConcurrentCheckWrites,
+    /// Another owner has the turn to write.
+    ConcurrentWrites,
     /// Another owner has the turn to write, and this call was to flush.
     ConcurrentFlushes,
 }
@@ -62,8 +62,8 @@ impl fmt::Display for TrapText {
             TrapText::WriteWhileFlushPending => write!(f, "write while a flush is pending"),
             TrapText::ConcurrentReads => write!(f, "concurrent reads are not supported"),
             TrapText::ConcurrentSkips => write!(f, "concurrent skips are not supported"),
-            TrapText::ConcurrentWrites => write!(f, "concurrent writes are not supported"),
-            TrapText::ConcurrentCheckWrites => write!(f, "concurrent writes not supported yet"),
+            TrapText::ConcurrentCheckWrites => write!(f, "concurrent writes are not supported"),
+            TrapText::ConcurrentWrites => write!(f, "concurrent writes not supported yet"),
             TrapText::ConcurrentFlushes => write!(f, "concurrent flushes not supported yet"),
         }
     }

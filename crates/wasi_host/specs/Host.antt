@@ -1,133 +1,81 @@
 -- The host of a session: what each step replies, and what it leaves.
-use Rattle.std.specs.Prelude.{◌≡◌, ℕ, Bool, true, false, cond, nat_lt, List, [], ◌∷◌, ◌++◌, length, get_or, set, slice_get, Option, Some, None, MatchOption, is_some, replicate}
+use Rattle.std.specs.Prelude.{◌≡◌, ℕ, Bool, true, false, cond, List, [], ◌∷◌, get_or, set, Option, Some, None, MatchOption, is_some, replicate}
+use Rattle.std.specs.Option.{option_map}
 use Rattle.wasi_base.specs.Source.{Told, Given, Gives, gives, told_after}
 use Rattle.wasi_base.specs.Source as given
-use Rattle.wasi_base.specs.declared.trap_text.TrapText.TheVariants.{ResourceNotPresent, ResourceWrongType, ResourceTableFull}
+use Rattle.wasi_table.specs.Table.{new_table}
 use Rattle.wasi_stdin.specs.declared.mode.Mode.TheVariants as mode
-use Rattle.wasi_stdin.specs.Shared.{Shared, Reading, Skipped, Polling, skipped, reading_of, after_read, poll_of, after_poll, wait_after_poll, capture_of, after_capture, delivered, given_now, outcome_of}
-use Rattle.wasi_stdin.specs.Shared as shared
+use Rattle.wasi_stdin.specs.Shared.{Shared, capture_of, after_capture, delivered, given_now, outcome_of}
 use Rattle.wasi_stdin.specs.declared.answer.Outcome.{Outcome}
 use Rattle.wasi_stdin.specs.declared.answer.Outcome.TheVariants as outcome
+use Rattle.wasi_script.specs.declared.lines.Input.{Input}
+use Rattle.wasi_script.specs.declared.lines.Input.TheVariants as input
 use Rattle.wasi_script.specs.declared.lines.Line.{Line}
 use Rattle.wasi_script.specs.declared.lines.Line.TheVariants as line
 use Rattle.wasi_script.specs.declared.lines.Call.{Call}
-use Rattle.wasi_script.specs.declared.lines.Call.TheVariants as call
-use Rattle.wasi_script.specs.declared.lines.ExitStatus.{ExitStatus}
-use Rattle.wasi_script.specs.declared.lines.ExitStatus.TheVariants as exit
 use Rattle.wasi_script.specs.Grammar.{Names, may_stand}
-use Rattle.wasi_host.specs.declared.entry.Entry.{Entry}
-use Rattle.wasi_host.specs.declared.entry.Entry.TheVariants.{Reader, Polled}
 use Rattle.wasi_host.specs.declared.reply.Reply.{Reply}
 use Rattle.wasi_host.specs.declared.reply.Reply.TheVariants as reply
 use Rattle.wasi_host.specs.Reply.{ends}
+use Rattle.wasi_host.specs.Calls.{Settings, Own, Called, call_rule}
 
--- what a guest reaches: its entries by their numbers, and whether it ended
-pub record Reach : Type 0 where
-  pub entries : List Entry
+-- a guest: what configuration lines say of it, what it owns, and whether it was called and whether it ended
+pub record Guest : Type 0 where
+  pub settings : Settings
+  pub own : Own
+  pub was_called : Bool
   pub ended : Bool
 
-abbrev pub no_reach : Reach
-no_reach = record { entries = []; ended = false }
+-- a guest has room for 1024 entries unless a line says otherwise
+abbrev pub new_guest : Input → Guest
+new_guest input = record { settings = record { input = input }; own = record { table = new_table 1024 }; was_called = false; ended = false }
+
+abbrev pub with_capacity : ℕ → Guest → Guest
+with_capacity capacity guest = record { settings = guest.settings; own = record { table = new_table capacity }; was_called = guest.was_called; ended = guest.ended }
 
 -- the shared input, and the guests by their numbers
 pub record Host : Type 0 where
   pub shared : Shared
-  pub guests : List (Option Reach)
+  pub guests : List (Option Guest)
 
 abbrev pub new_host : Host
 new_host = record { shared = record { mode = mode.Idle; held = []; captured = None; deliveries = 0 }; guests = replicate 64 None }
 
--- one call: its reply, and what it leaves of its guest's reach and of the shared input
-pub record Called : Type 0 where
+-- the answer to a call, with what becomes of its guest and of the shared input
+pub record Answered : Type 0 where
   pub reply : Reply
-  pub reach : Reach
+  pub guest : Guest
   pub shared : Shared
 
--- a call that changes nothing
-abbrev pub only_reply : Reply → Reach → Shared → Called
-only_reply reply reach shared = record { reply = reply; reach = reach; shared = shared }
+-- a guest that ends owns no entries any more
+abbrev pub left_own : Reply → Own → Own
+left_own reply own = cond (ends reply) (record { table = new_table own.table.capacity }) own
 
--- a new entry has the least number never given
-abbrev pub made : Entry → Reach → Shared → Called
-made entry reach shared =
-    cond (nat_lt (length reach.entries) 1024)
-    (record { reply = reply.Handle (length reach.entries); reach = record { entries = reach.entries ++ entry ∷ []; ended = reach.ended }; shared = shared })
-    (only_reply (reply.Trap ResourceTableFull) reach shared)
-
-abbrev pub reading_reply : Reading → Reply
-reading_reply (shared.Bytes bytes) = reply.Bytes bytes
-reading_reply shared.Ended = reply.Closed
-reading_reply (shared.Fault kind) = reply.Failed kind
-
-abbrev pub skipped_reply : Skipped → Reply
-skipped_reply (shared.Count count) = reply.Count count
-skipped_reply shared.Past = reply.Closed
-skipped_reply (shared.SkipFault kind) = reply.Failed kind
-
-abbrev pub polling_reply : Polling → Reply
-polling_reply (shared.Polled bytes) = reply.Bytes bytes
-polling_reply shared.Pending = reply.Pending
-polling_reply (shared.PollFault kind) = reply.Failed kind
-
-abbrev pub read_at : Option Entry → ℕ → Reach → Shared → Called
-read_at None size reach shared = only_reply (reply.Trap ResourceNotPresent) reach shared
-read_at (Some (Polled wait)) size reach shared = only_reply (reply.Trap ResourceWrongType) reach shared
-read_at (Some Reader) size reach shared = record { reply = reading_reply (reading_of shared size); reach = reach; shared = after_read shared size }
-
-abbrev pub skip_at : Option Entry → ℕ → Reach → Shared → Called
-skip_at None size reach shared = only_reply (reply.Trap ResourceNotPresent) reach shared
-skip_at (Some (Polled wait)) size reach shared = only_reply (reply.Trap ResourceWrongType) reach shared
-skip_at (Some Reader) size reach shared = record { reply = skipped_reply (skipped (reading_of shared size)); reach = reach; shared = after_read shared size }
-
--- a polled read keeps its wait in its entry
-abbrev pub poll_at : Option Entry → ℕ → ℕ → Reach → Shared → Called
-poll_at None number room reach shared = only_reply (reply.Trap ResourceNotPresent) reach shared
-poll_at (Some Reader) number room reach shared = only_reply (reply.Trap ResourceWrongType) reach shared
-poll_at (Some (Polled wait)) number room reach shared = record {
-  reply = polling_reply (poll_of shared wait room);
-  reach = record { entries = set reach.entries number (Polled (wait_after_poll shared wait room)); ended = reach.ended };
-  shared = after_poll shared wait room;
+abbrev pub settled : Guest → Called → Answered
+settled guest done = record {
+  reply = done.reply;
+  guest = record { settings = guest.settings; own = left_own done.reply done.own; was_called = true; ended = ends done.reply };
+  shared = done.shared;
 }
 
-abbrev pub exit_status : ExitStatus → ℕ
-exit_status exit.Ok = 0
-exit_status exit.Err = 1
-
--- each call by its own rule
-abbrev pub call_rule : Call → Reach → Shared → Called
-call_rule call.GetStdin reach shared = made Reader reach shared
-call_rule call.AsyncStdin reach shared = made (Polled None) reach shared
-call_rule (call.Read number size) reach shared = read_at (slice_get reach.entries number) size reach shared
-call_rule (call.Skip number size) reach shared = skip_at (slice_get reach.entries number) size reach shared
-call_rule (call.PollRead number room) reach shared = poll_at (slice_get reach.entries number) number room reach shared
-call_rule (call.Exit status) reach shared = only_reply (reply.Exit (exit_status status)) reach shared
-call_rule (call.ExitCode code) reach shared = only_reply (reply.Exit code) reach shared
-
--- a guest that ends has no entries any more
-abbrev pub left_reach : Reply → Reach → Reach
-left_reach reply reach = cond (ends reply) (record { entries = []; ended = true }) reach
-
-abbrev pub settled : Called → Called
-settled called = record { reply = called.reply; reach = left_reach called.reply called.reach; shared = called.shared }
-
 -- a guest that ended is told so, and nothing else happens
-abbrev pub called_by : Bool → Call → Reach → Shared → Called
-called_by true call reach shared = only_reply reply.Ended reach shared
-called_by false call reach shared = settled (call_rule call reach shared)
+abbrev pub answer_by : Bool → Call → Guest → Shared → Answered
+answer_by true call guest shared = record { reply = reply.Ended; guest = record { settings = guest.settings; own = guest.own; was_called = true; ended = guest.ended }; shared = shared }
+answer_by false call guest shared = settled guest (call_rule call guest.settings guest.own shared)
 
-abbrev pub called : Call → Reach → Shared → Called
-called call reach shared = called_by reach.ended call reach shared
+abbrev pub answer_to : Call → Guest → Shared → Answered
+answer_to call guest shared = answer_by guest.ended call guest shared
 
--- a guest's reach, taken out of the host and put back
-abbrev pub reach_of : Host → ℕ → Option Reach
-reach_of host guest = get_or host.guests guest None
+-- a guest, taken out of the host and put back
+abbrev pub guest_of : Host → ℕ → Option Guest
+guest_of host guest = get_or host.guests guest None
 
-abbrev pub put_called : Host → ℕ → Called → Host
-put_called host guest done = record { shared = done.shared; guests = set host.guests guest (Some done.reach) }
+abbrev pub put_answered : Host → ℕ → Answered → Host
+put_answered host guest done = record { shared = done.shared; guests = set host.guests guest (Some done.guest) }
 
-abbrev pub called_in : Call → Option Reach → Shared → Called
-called_in call None shared = only_reply reply.Ended no_reach shared
-called_in call (Some reach) shared = called call reach shared
+abbrev pub answer_in : Call → Option Guest → Shared → Answered
+answer_in call None shared = record { reply = reply.Ended; guest = new_guest input.Shared; shared = shared }
+answer_in call (Some guest) shared = answer_to call guest shared
 
 abbrev pub capture_reply : Option ℕ → Reply
 capture_reply None = reply.Idle
@@ -149,13 +97,15 @@ after_delivery (Some size) shared given = delivered shared given
 -- the reply to a step, and the host after it; a delivery gives `given`
 abbrev pub reply_to : Line → Host → Given → Reply
 reply_to (line.Guest guest input) host given = reply.Ok
-reply_to (line.Call guest call) host given = (called_in call (reach_of host guest) host.shared).reply
+reply_to (line.Capacity guest capacity) host given = reply.Ok
+reply_to (line.Call guest call) host given = (answer_in call (guest_of host guest) host.shared).reply
 reply_to line.Capture host given = capture_reply (capture_of host.shared)
 reply_to line.Deliver host given = delivery_reply host.shared.captured given
 
 abbrev pub host_after : Line → Host → Given → Host
-host_after (line.Guest guest input) host given = record { shared = host.shared; guests = set host.guests guest (Some no_reach) }
-host_after (line.Call guest call) host given = put_called host guest (called_in call (reach_of host guest) host.shared)
+host_after (line.Guest guest input) host given = record { shared = host.shared; guests = set host.guests guest (Some (new_guest input)) }
+host_after (line.Capacity guest capacity) host given = record { shared = host.shared; guests = set host.guests guest (option_map (with_capacity capacity) (guest_of host guest)) }
+host_after (line.Call guest call) host given = put_answered host guest (answer_in call (guest_of host guest) host.shared)
 host_after line.Capture host given = record { shared = after_capture host.shared; guests = host.guests }
 host_after line.Deliver host given = record { shared = after_delivery host.shared.captured host.shared given; guests = host.guests }
 
@@ -164,6 +114,7 @@ abbrev pub size_read : Line → Host → Option ℕ
 size_read line.Deliver host = host.shared.captured
 size_read line.Capture host = None
 size_read (line.Guest guest input) host = None
+size_read (line.Capacity guest capacity) host = None
 size_read (line.Call guest call) host = None
 
 -- one step, over any source: what a delivery gave is what the shared input holds after it
@@ -203,9 +154,13 @@ abbrev pub told_end : List Line → Host → Told → Told
 told_end [] host told = told
 told_end (step ∷ steps) host told = told_end steps (step_host step host told) (step_told step host told)
 
--- what the host's guests say is declared
+-- what the host's guests say is declared and was called
+abbrev pub was_called_in : Option Guest → Bool
+was_called_in None = false
+was_called_in (Some guest) = guest.was_called
+
 abbrev pub names_of : Host → Names
-names_of host = record { is_guest = λ guest. is_some (reach_of host guest) }
+names_of host = record { is_guest = λ guest. is_some (guest_of host guest); was_called = λ guest. was_called_in (guest_of host guest) }
 
 -- a step may stand after what the host holds
 abbrev pub Fits : Line → Host → Type 0

@@ -1,10 +1,14 @@
+pub mod Entry
 pub mod Reply
+pub mod Calls
 pub mod Host
 pub mod Run
+pub mod Codes
 pub mod Transcript
 pub mod Laws
 pub mod Steps
 pub mod Shown
+pub mod Owned
 pub mod Rules
 pub mod Lines
 pub mod Headline

@@ -93,8 +93,8 @@ trap_line trap.WriteExceededBudget = tested (trap_text trap.WriteExceededBudget)
 trap_line trap.WriteWhileFlushPending = tested (trap_text trap.WriteWhileFlushPending) refl
 trap_line trap.ConcurrentReads = tested (trap_text trap.ConcurrentReads) refl
 trap_line trap.ConcurrentSkips = tested (trap_text trap.ConcurrentSkips) refl
-trap_line trap.ConcurrentWrites = tested (trap_text trap.ConcurrentWrites) refl
 trap_line trap.ConcurrentCheckWrites = tested (trap_text trap.ConcurrentCheckWrites) refl
+trap_line trap.ConcurrentWrites = tested (trap_text trap.ConcurrentWrites) refl
 trap_line trap.ConcurrentFlushes = tested (trap_text trap.ConcurrentFlushes) refl
 
 dash_or_hex : (bytes : List ℕ) → IsOneLine (hex_of bytes)
@@ -107,6 +107,8 @@ text_line reply.Ok = tested (text_of reply.Ok) refl
 text_line (reply.Handle number) = joined (codes "handle ") (decimal number) (tested (codes "handle ") refl) (decimal_line number)
 text_line (reply.Bytes bytes) = joined (codes "bytes ") (hex_of bytes) (tested (codes "bytes ") refl) (dash_or_hex bytes)
 text_line (reply.Count count) = joined (codes "count ") (decimal count) (tested (codes "count ") refl) (decimal_line count)
+text_line (reply.Truth true) = tested (text_of (reply.Truth true)) refl
+text_line (reply.Truth false) = tested (text_of (reply.Truth false)) refl
 text_line reply.Pending = tested (text_of reply.Pending) refl
 text_line (reply.Captured size) = joined (codes "captured ") (decimal size) (tested (codes "captured ") refl) (decimal_line size)
 text_line reply.Idle = tested (text_of reply.Idle) refl

@@ -6,7 +6,7 @@ use Rattle.hex.specs.Hex.{encode_lower}
 use Rattle.wasi_base.specs.IoKind.{kind_name}
 use Rattle.wasi_base.specs.TrapText.{trap_text}
 use Rattle.wasi_host.specs.declared.reply.Reply.{Reply}
-use Rattle.wasi_host.specs.declared.reply.Reply.TheVariants.{Ok, Handle, Bytes, Count, Pending, Captured, Idle, Gave, End, Fault, Closed, Failed, Trap, Exit, Ended}
+use Rattle.wasi_host.specs.declared.reply.Reply.TheVariants.{Ok, Handle, Bytes, Count, Truth, Pending, Captured, Idle, Gave, End, Fault, Closed, Failed, Trap, Exit, Ended}
 
 -- lower-case hexadecimal, `-` for none
 abbrev pub hex_of : List ℕ → List ℕ
@@ -18,6 +18,8 @@ text_of Ok = codes "ok"
 text_of (Handle number) = codes "handle " ++ decimal number
 text_of (Bytes bytes) = codes "bytes " ++ hex_of bytes
 text_of (Count count) = codes "count " ++ decimal count
+text_of (Truth true) = codes "true"
+text_of (Truth false) = codes "false"
 text_of Pending = codes "pending"
 text_of (Captured size) = codes "captured " ++ decimal size
 text_of Idle = codes "idle"
@@ -45,6 +47,7 @@ ends Ok = false
 ends (Handle number) = false
 ends (Bytes bytes) = false
 ends (Count count) = false
+ends (Truth answer) = false
 ends Pending = false
 ends (Captured size) = false
 ends Idle = false

@@ -1,8 +1,10 @@
 -- The run of a script on the shared input: rules on replies, and places in one list of bytes.
-use Rattle.std.specs.Prelude.{◌≡◌, ◌≢◌, ℕ, zero, suc, ◌+◌, ◌-◌, min, max, Bool, true, false, cond, nat_eq, nat_lt, List, [], ◌∷◌, length, take, drop, Option, Some, None}
+use Rattle.std.specs.Prelude.{◌≡◌, ℕ, zero, suc, ◌+◌, ◌-◌, min, max, Bool, true, false, cond, nat_eq, nat_lt, List, [], ◌∷◌, length, take, drop, Option, Some, None, ◌⊎◌}
+use Rattle.std.specs.Ordering.{nat_cmp}
+use Rattle.std.specs.FinSet.{FinSet, empty, contains, insert, remove, len}
 use Rattle.wasi_base.specs.declared.io_kind.IoKind.{IoKind}
 use Rattle.wasi_base.specs.declared.io_kind.IoKind.TheVariants.{BrokenPipe}
-use Rattle.wasi_base.specs.declared.trap_text.TrapText.TheVariants.{ResourceTableFull}
+use Rattle.wasi_base.specs.declared.trap_text.TrapText.TheVariants.{ResourceHasChildren, ResourceTableFull}
 use Rattle.wasi_base.specs.Source.{Told, Given, gives, told_after}
 use Rattle.wasi_base.specs.Source as given
 use Rattle.wasi_stdin.specs.declared.mode.Mode.{Mode}
@@ -15,10 +17,11 @@ use Rattle.wasi_host.specs.declared.reply.Reply.{Reply}
 use Rattle.wasi_host.specs.declared.reply.Reply.TheVariants as reply
 use Rattle.wasi_host.specs.Reply.{ends}
 
--- what stands at a number: a reader, or a polled one with its wait
+-- what stands at a number: a reader, a polled one with its wait, or a pollable with its reader's number and its wait
 pub data Standing : Type 0 where
   Reader : Standing
   Polled : Option ℕ → Standing
+  Pollable : ℕ → Option ℕ → Standing
 
 -- What a run shares. The bytes held stand in the input between the places `handed` and `given`.
 pub record Sharing : Type 0 where
@@ -29,24 +32,36 @@ pub record Sharing : Type 0 where
   pub captured : Option ℕ
   pub deliveries : ℕ
   pub standing : ℕ → ℕ → Option Standing
-  pub live : ℕ → List ℕ
+  pub live : ℕ → FinSet nat_cmp
+  pub capacity : ℕ → ℕ
   pub ended : ℕ → Bool
 
 abbrev pub at_number : {A : Type 0} → (ℕ → A) → ℕ → A → ℕ → A
 at_number f n x m = cond (nat_eq m n) x (f m)
 
 abbrev pub at_start : Told → Sharing
-at_start told = record { told = told; handed = 0; given = 0; mode = Idle; captured = None; deliveries = 0; standing = λ guest number. None; live = λ guest. []; ended = λ guest. false }
+at_start told = record {
+  told = told;
+  handed = 0;
+  given = 0;
+  mode = Idle;
+  captured = None;
+  deliveries = 0;
+  standing = λ guest number. None;
+  live = λ guest. empty;
+  capacity = λ guest. 1024;
+  ended = λ guest. false;
+}
 
 -- a guest ended: its numbers are gone, and the rest stays
 abbrev pub without_guest : Sharing → ℕ → Sharing
-without_guest s g = record s { standing = at_number s.standing g (λ number. None); live = at_number s.live g []; ended = at_number s.ended g true }
+without_guest s g = record s { standing = at_number s.standing g (λ number. None); live = at_number s.live g empty; ended = at_number s.ended g true }
 
 abbrev pub with_standing : Sharing → ℕ → ℕ → Standing → Sharing
 with_standing s g n it = record s { standing = at_number s.standing g (at_number (s.standing g) n (Some it)) }
 
-abbrev pub with_new : Sharing → ℕ → ℕ → Standing → Sharing
-with_new s g n it = record (with_standing s g n it) { live = at_number s.live g (n ∷ s.live g) }
+abbrev pub without_standing : Sharing → ℕ → ℕ → Sharing
+without_standing s g n = record s { standing = at_number s.standing g (at_number (s.standing g) n None) }
 
 -- how many bytes are held, and the first of them
 abbrev pub held_count : Sharing → ℕ
@@ -113,52 +128,132 @@ abbrev pub PollRow : Bool → List ℕ → Sharing → ℕ → ℕ → ℕ → R
 PollRow false input s g n room answer s' = (answer ≡ reply.Pending) × (s' ≡ s)
 PollRow true input s g n room answer s' = (answer ≡ poll_row s.mode input s room) × (s' ≡ with_standing (after_row s.mode s room) g n (Polled (wait_row s.mode s)))
 
--- a call that is not on the shared input changes nothing, but that its guest may end
-abbrev pub OtherRule : Sharing → ℕ → Reply → Sharing → Type 0
-OtherRule s g answer s' = s' ≡ (cond (ends answer) (without_guest s g) s)
+-- a pollable is ready once something is there; else it asks for 65536 bytes, where nobody asked
+abbrev pub ready_row : Mode → Bool
+ready_row Idle = false
+ready_row (Asked n) = false
+ready_row Held = true
+ready_row (Failed kind) = true
+ready_row Closed = true
 
--- a number that is not live
-abbrev pub IsFresh : ℕ → List ℕ → Type 0
-IsFresh n [] = Unit {0}
-IsFresh n (k ∷ live) = (k ≢ n) × IsFresh n live
+abbrev pub after_ready_row : Mode → Sharing → Sharing
+after_ready_row Idle s = record s { mode = Asked 65536 }
+after_ready_row (Asked n) s = s
+after_ready_row Held s = s
+after_ready_row (Failed kind) s = s
+after_ready_row Closed s = s
 
--- a number that was not live, or a full table
+abbrev pub ReadyRule : Sharing → Reply → Sharing → Type 0
+ReadyRule s answer s' = (answer ≡ reply.Truth (ready_row s.mode)) × (s' ≡ after_ready_row s.mode s)
+
+-- a block without a wait is `ready`, and waits for one delivery where that is false
+abbrev pub block_row : Mode → Sharing → Option ℕ
+block_row mode s = cond (ready_row mode) None (Some s.deliveries)
+
+abbrev pub BlockRow : Bool → Sharing → ℕ → ℕ → ℕ → Reply → Sharing → Type 0
+BlockRow false s g n parent answer s' = (answer ≡ reply.Truth false) × (s' ≡ s)
+BlockRow true s g n parent answer s' = (answer ≡ reply.Truth true) × (s' ≡ with_standing s g n (Pollable parent None))
+
+abbrev pub BlockRule : Option ℕ → Sharing → ℕ → ℕ → ℕ → Reply → Sharing → Type 0
+BlockRule None s g n parent answer s' = (answer ≡ reply.Truth (ready_row s.mode)) × (s' ≡ with_standing (after_ready_row s.mode s) g n (Pollable parent (block_row s.mode s)))
+BlockRule (Some since) s g n parent answer s' = BlockRow (nat_lt since s.deliveries) s g n parent answer s'
+
+-- a call that is not on the shared input changes nothing of it; its reply is told by the host
+abbrev pub OtherRule : Sharing → Sharing → Type 0
+OtherRule s s' = s' ≡ s
+
+-- a number that was not live; or all of the guest's capacity is live
 abbrev pub MakeRule : Bool → Standing → Sharing → ℕ → Reply → Sharing → Type 0
-MakeRule false it s g answer s' = (answer ≡ reply.Trap ResourceTableFull) × (s' ≡ without_guest s g)
-MakeRule true it s g answer s' = (n : ℕ) × (answer ≡ reply.Handle n) × IsFresh n (s.live g) × (s' ≡ with_new s g n it)
+MakeRule true it s g answer s' = (answer ≡ reply.Trap ResourceTableFull) × (s' ≡ s)
+MakeRule false it s g answer s' = (n : ℕ) × (answer ≡ reply.Handle n) × (contains (s.live g) n ≡ false) × (s' ≡ with_standing s g n it)
 
-abbrev pub has_room : Sharing → ℕ → Bool
-has_room s g = nat_lt (length (s.live g)) 1024
+abbrev pub is_full : Sharing → ℕ → Bool
+is_full s g = nat_eq (len (s.live g)) (s.capacity g)
+
+-- a pollable of this reader stands at some number
+abbrev pub HasPollable : Sharing → ℕ → ℕ → Type 0
+HasPollable s g n = (m : ℕ) × (wait : Option ℕ) × (s.standing g m ≡ Some (Pollable n wait))
+
+-- a reader stays while it has a pollable
+abbrev pub DropReader : Sharing → ℕ → ℕ → Reply → Sharing → Type 0
+DropReader s g n answer s' =
+    (HasPollable s g n × (answer ≡ reply.Trap ResourceHasChildren) × (s' ≡ s))
+    ⊎ ((HasPollable s g n → ⊥) × (answer ≡ reply.Ok) × (s' ≡ without_standing s g n))
 
 -- the calls on a number, by what stands at it
-abbrev pub ReadAt : Option Standing → List ℕ → Sharing → ℕ → ℕ → Reply → Sharing → Type 0
-ReadAt (Some Reader) input s g size answer s' = ReadRule input s size answer s'
-ReadAt (Some (Polled wait)) input s g size answer s' = OtherRule s g answer s'
-ReadAt None input s g size answer s' = OtherRule s g answer s'
+abbrev pub ReadAt : Option Standing → List ℕ → Sharing → ℕ → Reply → Sharing → Type 0
+ReadAt None input s size answer s' = OtherRule s s'
+ReadAt (Some Reader) input s size answer s' = ReadRule input s size answer s'
+ReadAt (Some (Polled wait)) input s size answer s' = OtherRule s s'
+ReadAt (Some (Pollable parent wait)) input s size answer s' = OtherRule s s'
 
-abbrev pub SkipAt : Option Standing → List ℕ → Sharing → ℕ → ℕ → Reply → Sharing → Type 0
-SkipAt (Some Reader) input s g size answer s' = SkipRule input s size answer s'
-SkipAt (Some (Polled wait)) input s g size answer s' = OtherRule s g answer s'
-SkipAt None input s g size answer s' = OtherRule s g answer s'
+abbrev pub SkipAt : Option Standing → List ℕ → Sharing → ℕ → Reply → Sharing → Type 0
+SkipAt None input s size answer s' = OtherRule s s'
+SkipAt (Some Reader) input s size answer s' = SkipRule input s size answer s'
+SkipAt (Some (Polled wait)) input s size answer s' = OtherRule s s'
+SkipAt (Some (Pollable parent wait)) input s size answer s' = OtherRule s s'
 
 abbrev pub PollAt : Option Standing → List ℕ → Sharing → ℕ → ℕ → ℕ → Reply → Sharing → Type 0
+PollAt None input s g n room answer s' = OtherRule s s'
+PollAt (Some Reader) input s g n room answer s' = OtherRule s s'
 PollAt (Some (Polled wait)) input s g n room answer s' = PollRow (is_over wait s.deliveries) input s g n room answer s'
-PollAt (Some Reader) input s g n room answer s' = OtherRule s g answer s'
-PollAt None input s g n room answer s' = OtherRule s g answer s'
+PollAt (Some (Pollable parent wait)) input s g n room answer s' = OtherRule s s'
+
+abbrev pub SubscribeAt : Option Standing → Sharing → ℕ → ℕ → Reply → Sharing → Type 0
+SubscribeAt None s g n answer s' = OtherRule s s'
+SubscribeAt (Some Reader) s g n answer s' = MakeRule (is_full s g) (Pollable n None) s g answer s'
+SubscribeAt (Some (Polled wait)) s g n answer s' = OtherRule s s'
+SubscribeAt (Some (Pollable parent wait)) s g n answer s' = OtherRule s s'
+
+abbrev pub ReadyAt : Option Standing → Sharing → Reply → Sharing → Type 0
+ReadyAt None s answer s' = OtherRule s s'
+ReadyAt (Some Reader) s answer s' = OtherRule s s'
+ReadyAt (Some (Polled wait)) s answer s' = OtherRule s s'
+ReadyAt (Some (Pollable parent wait)) s answer s' = ReadyRule s answer s'
+
+abbrev pub BlockAt : Option Standing → Sharing → ℕ → ℕ → Reply → Sharing → Type 0
+BlockAt None s g n answer s' = OtherRule s s'
+BlockAt (Some Reader) s g n answer s' = OtherRule s s'
+BlockAt (Some (Polled wait)) s g n answer s' = OtherRule s s'
+BlockAt (Some (Pollable parent wait)) s g n answer s' = BlockRule wait s g n parent answer s'
+
+abbrev pub DropAt : Option Standing → Sharing → ℕ → ℕ → Reply → Sharing → Type 0
+DropAt None s g n answer s' = OtherRule s s'
+DropAt (Some Reader) s g n answer s' = DropReader s g n answer s'
+DropAt (Some (Polled wait)) s g n answer s' = (answer ≡ reply.Ok) × (s' ≡ without_standing s g n)
+DropAt (Some (Pollable parent wait)) s g n answer s' = (answer ≡ reply.Ok) × (s' ≡ without_standing s g n)
 
 abbrev pub CallRule : Call → List ℕ → Sharing → ℕ → Reply → Sharing → Type 0
-CallRule call.GetStdin input s g answer s' = MakeRule (has_room s g) Reader s g answer s'
-CallRule call.AsyncStdin input s g answer s' = MakeRule (has_room s g) (Polled None) s g answer s'
-CallRule (call.Read n size) input s g answer s' = ReadAt (s.standing g n) input s g size answer s'
-CallRule (call.Skip n size) input s g answer s' = SkipAt (s.standing g n) input s g size answer s'
+CallRule call.GetStdin input s g answer s' = MakeRule (is_full s g) Reader s g answer s'
+CallRule call.AsyncStdin input s g answer s' = MakeRule (is_full s g) (Polled None) s g answer s'
+CallRule (call.Read n size) input s g answer s' = ReadAt (s.standing g n) input s size answer s'
+CallRule (call.Skip n size) input s g answer s' = SkipAt (s.standing g n) input s size answer s'
 CallRule (call.PollRead n room) input s g answer s' = PollAt (s.standing g n) input s g n room answer s'
-CallRule (call.Exit status) input s g answer s' = OtherRule s g answer s'
-CallRule (call.ExitCode code) input s g answer s' = OtherRule s g answer s'
+CallRule (call.Subscribe n) input s g answer s' = SubscribeAt (s.standing g n) s g n answer s'
+CallRule (call.Ready n) input s g answer s' = ReadyAt (s.standing g n) s answer s'
+CallRule (call.Block n) input s g answer s' = BlockAt (s.standing g n) s g n answer s'
+CallRule (call.Drop n) input s g answer s' = DropAt (s.standing g n) s g n answer s'
+CallRule (call.Exit status) input s g answer s' = OtherRule s s'
+CallRule (call.ExitCode code) input s g answer s' = OtherRule s s'
 
--- a guest that ended is told so
+-- the live numbers are read off the replies: a handle adds its number, and a drop that is done takes its away
+abbrev pub dropped_by : Call → FinSet nat_cmp → FinSet nat_cmp
+dropped_by (call.Drop n) live = remove live n
+dropped_by other live = live
+
+abbrev pub live_after : Call → Reply → FinSet nat_cmp → FinSet nat_cmp
+live_after c (reply.Handle n) live = insert live n
+live_after c reply.Ok live = dropped_by c live
+live_after c other live = live
+
+-- a trap or an exit ends its guest
+abbrev pub left_by : Call → ℕ → Reply → Sharing → Sharing
+left_by c g answer s = cond (ends answer) (without_guest s g) (record s { live = at_number s.live g (live_after c answer (s.live g)) })
+
+-- a guest that ended is told so; any other call follows its rule
 abbrev pub EndedRule : Bool → Call → List ℕ → Sharing → ℕ → Reply → Sharing → Type 0
 EndedRule true c input s g answer s' = (answer ≡ reply.Ended) × (s' ≡ s)
-EndedRule false c input s g answer s' = CallRule c input s g answer s'
+EndedRule false c input s g answer s' = (mid : Sharing) × CallRule c input s g answer mid × (s' ≡ left_by c g answer mid)
 
 -- a capture takes what is asked for, one byte at least and 65536 at most, where nothing is captured
 abbrev pub size_captured : Mode → Option ℕ → Option ℕ
@@ -194,6 +289,7 @@ DeliverRule (Some size) s answer s' = (answer ≡ delivery_answer (gives s.told 
 -- one step of a run, on the input
 abbrev pub Rule : List ℕ → Sharing → Line → Reply → Sharing → Type 0
 Rule input s (line.Guest g from) answer s' = (answer ≡ reply.Ok) × (s' ≡ s)
+Rule input s (line.Capacity g capacity) answer s' = (answer ≡ reply.Ok) × (s' ≡ record s { capacity = at_number s.capacity g capacity })
 Rule input s (line.Call g c) answer s' = EndedRule (s.ended g) c input s g answer s'
 Rule input s line.Capture answer s' = CaptureRule (size_captured s.mode s.captured) s answer s'
 Rule input s line.Deliver answer s' = DeliverRule s.captured s answer s'

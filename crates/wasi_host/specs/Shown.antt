@@ -1,7 +1,10 @@
 -- What a host shows of the shared input, and what follows where somebody asks for bytes.
-use Rattle.std.proofs.Common.{◌≡◌, ℕ, zero, suc, ◌+◌, ◌-◌, ◌<◌, ◌≤◌, min, max, Bool, true, false, cond, List, [], ◌∷◌, ◌++◌, length, get_or, set, take, drop, Option, Some, None, refl, ap, arith, ◌∙◌, sym, subst, append_assoc, take-append-drop}
-use Rattle.std.specs.Prelude.{nat_eq, slice_get}
+use Rattle.std.proofs.Common.{◌≡◌, ℕ, ◌+◌, ◌-◌, ◌<◌, ◌≤◌, min, max, Bool, true, false, cond, List, [], ◌∷◌, ◌++◌, length, get_or, set, take, drop, Option, Some, None, refl, ap, arith, ◌∙◌, sym, subst, append_assoc, take-append-drop}
+use Rattle.std.specs.Prelude.{nat_eq}
 use Rattle.std.specs.Option.{option_map}
+use Rattle.std.specs.Ordering.{nat_cmp}
+use Rattle.std.specs.FinMap as map
+use Rattle.std.specs.FinSet.{FinSet}
 use Rattle.std.proofs.lemmas.Bool.Decides.{nat_tests}
 use Rattle.std.proofs.lemmas.Grind.{common_steps}
 use Rattle.wasi_base.specs.declared.io_kind.IoKind.{IoKind}
@@ -10,44 +13,56 @@ use Rattle.wasi_base.specs.Source.{Told}
 use Rattle.wasi_stdin.specs.declared.mode.Mode.{Mode}
 use Rattle.wasi_stdin.specs.declared.mode.Mode.TheVariants.{Idle, Asked, Held, Failed, Closed}
 use Rattle.wasi_stdin.specs.Shared.{Shared, IsSound, HoldsIn, CapturedIn, met_in, after_in, reading, told_fault, polling, wait_of, mode_holding}
+use Rattle.wasi_table.specs.Table.{Held as Row, held_at, new_table}
+use Rattle.wasi_script.specs.declared.lines.Input.{Input}
 use Rattle.wasi_host.specs.declared.entry.Entry.{Entry}
 use Rattle.wasi_host.specs.declared.entry.Entry.TheVariants as entry
 use Rattle.wasi_host.specs.declared.reply.Reply.TheVariants as reply
-use Rattle.wasi_host.specs.Host.{Reach, no_reach, reading_reply, polling_reply}
-use Rattle.wasi_host.specs.Run.{Standing, Sharing, Rule, IsRun, at_number, at_start, with_standing, with_new, held_count, held_front, after_row, read_row, poll_row, wait_row, fault_to_read, ReadRule, SkipRule, counted, is_over, PollRow, OtherRule, IsFresh, MakeRule, has_room, ReadAt, SkipAt, PollAt, CallRule, EndedRule, size_captured, CaptureRule, delivery_row, delivery_answer, delivered_row, DeliverRule}
+use Rattle.wasi_host.specs.Calls.{Own, reading_reply, polling_reply}
+use Rattle.wasi_host.specs.Host.{Guest, new_guest}
+use Rattle.wasi_host.specs.Run.{Standing, Sharing, at_number, with_standing, without_standing, held_count, held_front, after_row, read_row, poll_row, wait_row, fault_to_read}
 use Rattle.wasi_host.specs.Run as run
 
-abbrev pub standing_of : Entry → Standing
-standing_of entry.Reader = run.Reader
-standing_of (entry.Polled wait) = run.Polled wait
+abbrev pub parent_or : Option ℕ → ℕ
+parent_or None = 0
+parent_or (Some parent) = parent
 
-abbrev pub numbers_below : ℕ → List ℕ
-numbers_below zero = []
-numbers_below (suc n) = n ∷ numbers_below n
+abbrev pub standing_by : Entry → Option ℕ → Standing
+standing_by entry.Reader parent = run.Reader
+standing_by (entry.Polled wait) parent = run.Polled wait
+standing_by (entry.Pollable wait) parent = run.Pollable (parent_or parent) wait
 
-abbrev pub entries_in : Option Reach → List Entry
-entries_in None = []
-entries_in (Some reach) = reach.entries
+abbrev pub standing_of : Row Entry → Standing
+standing_of held = standing_by held.entry held.parent
 
-abbrev pub ended_in : Option Reach → Bool
+abbrev pub standing_in : Own → ℕ → Option Standing
+standing_in own n = option_map standing_of (held_at own.table n)
+
+abbrev pub standing_with : Option Guest → ℕ → Option Standing
+standing_with None n = None
+standing_with (Some guest) n = standing_in guest.own n
+
+abbrev pub capacity_in : Option Guest → ℕ
+capacity_in None = 1024
+capacity_in (Some guest) = guest.own.table.capacity
+
+abbrev pub ended_in : Option Guest → Bool
 ended_in None = false
-ended_in (Some reach) = reach.ended
+ended_in (Some guest) = guest.ended
 
-abbrev pub standing_in : List Entry → ℕ → Option Standing
-standing_in entries n = option_map standing_of (slice_get entries n)
-
--- what a host shows of the shared input, where `front` was handed out
-abbrev pub shown : List ℕ → Shared → (ℕ → Option Reach) → Told → Sharing
-shown front shared reach told = record {
+-- what a host shows of the shared input, where `front` was handed out and these numbers are live
+abbrev pub shown : List ℕ → Shared → (ℕ → Option Guest) → (ℕ → FinSet nat_cmp) → Told → Sharing
+shown front shared guests live told = record {
   told = told;
   handed = length front;
   given = length front + length shared.held;
   mode = shared.mode;
   captured = shared.captured;
   deliveries = shared.deliveries;
-  standing = λ g. standing_in (entries_in (reach g));
-  live = λ g. numbers_below (length (entries_in (reach g)));
-  ended = λ g. ended_in (reach g);
+  standing = λ g. standing_with (guests g);
+  live = live;
+  capacity = λ g. capacity_in (guests g);
+  ended = λ g. ended_in (guests g);
 }
 
 cond_map : {A B : Type 0} (f : A → B) (b : Bool) (x y : A) → f (cond b x y) ≡ cond b (f x) (f y)
@@ -60,23 +75,53 @@ cond_same f m n x e = grind (arith, nat_tests)
 pub get_set : {A : Type 0} (xs : List A) (n m : ℕ) (x d : A) → n < length xs → get_or (set xs n x) m d ≡ cond (nat_eq m n) x (get_or xs m d)
 get_set xs n m x d h = grind (arith, nat_tests, common_steps)
 
--- what is shown once a guest's reach is another
-pub shown_put : (front : List ℕ) (shared : Shared) (reach : ℕ → Option Reach) (told : Told) (n : ℕ) (r : Reach) → shown front shared (at_number reach n (Some r)) told ≡ record (shown front shared reach told) { standing = at_number (shown front shared reach told).standing n (standing_in r.entries); live = at_number (shown front shared reach told).live n (numbers_below (length r.entries)); ended = at_number (shown front shared reach told).ended n r.ended }
-shown_put front shared reach told n r = λ i. record (shown front shared reach told) {
-  standing = λ g. cond_map {B = ℕ → Option Standing} (λ (o : Option Reach). standing_in (entries_in o)) (nat_eq g n) (Some r) (reach g) i;
-  live = λ g. cond_map {B = List ℕ} (λ (o : Option Reach). numbers_below (length (entries_in o))) (nat_eq g n) (Some r) (reach g) i;
-  ended = λ g. cond_map ended_in (nat_eq g n) (Some r) (reach g) i;
+-- what is shown once a guest is another
+pub shown_put : (front : List ℕ) (shared : Shared) (guests : ℕ → Option Guest) (live : ℕ → FinSet nat_cmp) (told : Told) (n : ℕ) (guest : Guest) → shown front shared (at_number guests n (Some guest)) live told ≡ record (shown front shared guests live told) { standing = at_number (shown front shared guests live told).standing n (standing_in guest.own); capacity = at_number (shown front shared guests live told).capacity n guest.own.table.capacity; ended = at_number (shown front shared guests live told).ended n guest.ended }
+shown_put front shared guests live told n guest = λ i. record (shown front shared guests live told) {
+  standing = λ g. cond_map {B = ℕ → Option Standing} standing_with (nat_eq g n) (Some guest) (guests g) i;
+  capacity = λ g. cond_map capacity_in (nat_eq g n) (Some guest) (guests g) i;
+  ended = λ g. cond_map ended_in (nat_eq g n) (Some guest) (guests g) i;
 }
 
-pub put_same : (reach : ℕ → Option Reach) (n : ℕ) (r : Reach) → reach n ≡ Some r → at_number reach n (Some r) ≡ reach
-put_same reach n r e = λ i m. cond_same reach m n (Some r) e i
+-- a guest whose own is another
+abbrev pub with_own : Guest → Own → Guest
+with_own guest own = record { settings = guest.settings; own = own; was_called = true; ended = guest.ended }
+
+pub put_own : (front : List ℕ) (shared : Shared) (guests : ℕ → Option Guest) (live : ℕ → FinSet nat_cmp) (told : Told) (n : ℕ) (guest : Guest) (own : Own) (standing : ℕ → Option Standing) → guests n ≡ Some guest → standing_in own ≡ standing → own.table.capacity ≡ guest.own.table.capacity → shown front shared (at_number guests n (Some (with_own guest own))) live told ≡ record (shown front shared guests live told) { standing = at_number (shown front shared guests live told).standing n standing }
+put_own front shared guests live told n guest own standing e is same =
+    shown_put front shared guests live told n (with_own guest own)
+    ∙ (λ i. record (shown front shared guests live told) {
+      standing = at_number (shown front shared guests live told).standing n (is i);
+      capacity = λ g. cond_same {A = ℕ} (λ (m : ℕ). capacity_in (guests m)) g n own.table.capacity (ap capacity_in e ∙ sym same) i;
+      ended = λ g. cond_same {A = Bool} (λ (m : ℕ). ended_in (guests m)) g n guest.ended (ap ended_in e) i;
+    })
+
+-- a guest whose entries show what they did
+pub put_alike : (front : List ℕ) (shared : Shared) (guests : ℕ → Option Guest) (live : ℕ → FinSet nat_cmp) (told : Told) (n : ℕ) (guest : Guest) (own : Own) → guests n ≡ Some guest → standing_in own ≡ standing_in guest.own → own.table.capacity ≡ guest.own.table.capacity → shown front shared (at_number guests n (Some (with_own guest own))) live told ≡ shown front shared guests live told
+put_alike front shared guests live told n guest own e is same =
+    put_own front shared guests live told n guest own (standing_in guest.own) e is same
+    ∙ (λ i. record (shown front shared guests live told) { standing = λ g. cond_same {A = ℕ → Option Standing} (λ (m : ℕ). standing_with (guests m)) g n (standing_in guest.own) (ap standing_with e) i })
+
+pub put_same : (front : List ℕ) (shared : Shared) (guests : ℕ → Option Guest) (live : ℕ → FinSet nat_cmp) (told : Told) (n : ℕ) (guest : Guest) → guests n ≡ Some guest → shown front shared (at_number guests n (Some (with_own guest guest.own))) live told ≡ shown front shared guests live told
+put_same front shared guests live told n guest e = put_alike front shared guests live told n guest guest.own e refl refl
+
+-- one number's entry is another, and the rest stays
+pub put_standing : (front : List ℕ) (shared : Shared) (guests : ℕ → Option Guest) (live : ℕ → FinSet nat_cmp) (told : Told) (n k : ℕ) (guest : Guest) (own : Own) (it : Standing) → guests n ≡ Some guest → ((m : ℕ) → standing_in own m ≡ cond (nat_eq m k) (Some it) (standing_in guest.own m)) → own.table.capacity ≡ guest.own.table.capacity → shown front shared (at_number guests n (Some (with_own guest own))) live told ≡ with_standing (shown front shared guests live told) n k it
+put_standing front shared guests live told n k guest own it e is same = put_own front shared guests live told n guest own (at_number ((shown front shared guests live told).standing n) k (Some it)) e (λ i m. (is m ∙ ap (λ (o : Option Guest). cond (nat_eq m k) (Some it) (standing_with o m)) (sym e)) i) same
+
+pub put_none : (front : List ℕ) (shared : Shared) (guests : ℕ → Option Guest) (live : ℕ → FinSet nat_cmp) (told : Told) (n k : ℕ) (guest : Guest) (own : Own) → guests n ≡ Some guest → ((m : ℕ) → standing_in own m ≡ cond (nat_eq m k) None (standing_in guest.own m)) → own.table.capacity ≡ guest.own.table.capacity → shown front shared (at_number guests n (Some (with_own guest own))) live told ≡ without_standing (shown front shared guests live told) n k
+put_none front shared guests live told n k guest own e is same = put_own front shared guests live told n guest own (at_number ((shown front shared guests live told).standing n) k None) e (λ i m. (is m ∙ ap (λ (o : Option Guest). cond (nat_eq m k) None (standing_with o m)) (sym e)) i) same
+
+-- nothing stands in a new table
+pub nothing_stands : (capacity : ℕ) → standing_in (record { table = new_table capacity }) ≡ (λ n. None)
+nothing_stands capacity = λ i n. option_map standing_of (map.get-empty {X = Row Entry} nat_cmp n i)
 
 -- a new guest shows nothing
-pub declare_same : (front : List ℕ) (shared : Shared) (reach : ℕ → Option Reach) (told : Told) (n : ℕ) → reach n ≡ None → shown front shared (at_number reach n (Some no_reach)) told ≡ shown front shared reach told
-declare_same front shared reach told n e = shown_put front shared reach told n no_reach ∙ (λ i. record (shown front shared reach told) {
-  standing = λ g. cond_same {A = ℕ → Option Standing} (λ (m : ℕ). standing_in (entries_in (reach m))) g n (λ k. None) (rw e refl) i;
-  live = λ g. cond_same {A = List ℕ} (λ (m : ℕ). numbers_below (length (entries_in (reach m)))) g n [] (rw e refl) i;
-  ended = λ g. cond_same {A = Bool} (λ (m : ℕ). ended_in (reach m)) g n false (rw e refl) i;
+pub declare_same : (front : List ℕ) (shared : Shared) (guests : ℕ → Option Guest) (live : ℕ → FinSet nat_cmp) (told : Told) (n : ℕ) (from : Input) → guests n ≡ None → shown front shared (at_number guests n (Some (new_guest from))) live told ≡ shown front shared guests live told
+declare_same front shared guests live told n from e = shown_put front shared guests live told n (new_guest from) ∙ (λ i. record (shown front shared guests live told) {
+  standing = λ g. cond_same {A = ℕ → Option Standing} (λ (m : ℕ). standing_with (guests m)) g n (standing_in (new_guest from).own) (ap standing_with e ∙ sym (nothing_stands 1024)) i;
+  capacity = λ g. cond_same {A = ℕ} (λ (m : ℕ). capacity_in (guests m)) g n 1024 (ap capacity_in e) i;
+  ended = λ g. cond_same {A = Bool} (λ (m : ℕ). ended_in (guests m)) g n false (ap ended_in e) i;
 })
 
 handed_more : (front held : List ℕ) (size : ℕ) → length (front ++ take size held) ≡ length front + min size (length front + length held - length front)
@@ -101,7 +146,7 @@ asked_any : (c : Option ℕ) (n k : ℕ) → CapturedIn (Asked n) c → Captured
 asked_any None n k h = tt
 asked_any (Some size) n k h = h
 
-asked_none : (c : Option ℕ) (k : ℕ) → c ≡ None → CapturedIn (Asked k) c
+pub asked_none : (c : Option ℕ) (k : ℕ) → c ≡ None → CapturedIn (Asked k) c
 asked_none None k h = tt
 asked_none (Some size) k h = absurd (cc)
 
@@ -109,7 +154,7 @@ holding_sound : (held : List ℕ) (c : Option ℕ) (d : ℕ) → c ≡ None → 
 holding_sound [] c d h = record { holds = refl; captures = h }
 holding_sound (b ∷ bytes) c d h = record { holds = omega arith; captures = h }
 
-sound_at : (m : Mode) (s : Shared) → s.mode ≡ m → IsSound s → HoldsIn m s.held × CapturedIn m s.captured
+pub sound_at : (m : Mode) (s : Shared) → s.mode ≡ m → IsSound s → HoldsIn m s.held × CapturedIn m s.captured
 sound_at m s is sound = (subst (λ m. HoldsIn m s.held) is sound.holds, subst (λ m. CapturedIn m s.captured) is sound.captures)
 
 fault_read : (kind : IoKind) → reading_reply (told_fault kind) ≡ fault_to_read kind
@@ -121,22 +166,22 @@ pub record RowNext (m : Mode) (input front : List ℕ) (shared : Shared) (told :
   pub front' : List ℕ
   pub input_is : input ≡ front' ++ ((after_in m shared size).held ++ told.left)
   pub sound : IsSound (after_in m shared size)
-  pub state : (reach : ℕ → Option Reach) → shown front' (after_in m shared size) reach told ≡ after_row m (shown front shared reach told) size
-  pub read : (reach : ℕ → Option Reach) → reading_reply (reading (met_in m shared.held size)) ≡ read_row m input (shown front shared reach told) size
-  pub poll : (reach : ℕ → Option Reach) → polling_reply (polling (met_in m shared.held size)) ≡ poll_row m input (shown front shared reach told) size
-  pub wait : (reach : ℕ → Option Reach) → wait_of (met_in m shared.held size) shared.deliveries ≡ wait_row m (shown front shared reach told)
+  pub state : (guests : ℕ → Option Guest) (live : ℕ → FinSet nat_cmp) → shown front' (after_in m shared size) guests live told ≡ after_row m (shown front shared guests live told) size
+  pub read : (guests : ℕ → Option Guest) (live : ℕ → FinSet nat_cmp) → reading_reply (reading (met_in m shared.held size)) ≡ read_row m input (shown front shared guests live told) size
+  pub poll : (guests : ℕ → Option Guest) (live : ℕ → FinSet nat_cmp) → polling_reply (polling (met_in m shared.held size)) ≡ poll_row m input (shown front shared guests live told) size
+  pub wait : (guests : ℕ → Option Guest) (live : ℕ → FinSet nat_cmp) → wait_of (met_in m shared.held size) shared.deliveries ≡ wait_row m (shown front shared guests live told)
 
 pub row_next : (m : Mode) (input front : List ℕ) (shared : Shared) (told : Told) (size : ℕ) → shared.mode ≡ m → IsSound shared → input ≡ front ++ (shared.held ++ told.left) → RowNext m input front shared told size
-row_next Idle input front shared told size is sound e = let at = sound_at Idle shared is sound in record { front' = front; input_is = e; sound = record { holds = at.0; captures = asked_none shared.captured size at.1 }; state = λ reach. refl; read = λ reach. refl; poll = λ reach. refl; wait = λ reach. refl }
-row_next (Asked n) input front shared told size is sound e = let at = sound_at (Asked n) shared is sound in record { front' = front; input_is = e; sound = record { holds = at.0; captures = asked_any shared.captured n (max n size) at.1 }; state = λ reach. refl; read = λ reach. refl; poll = λ reach. refl; wait = λ reach. refl }
+row_next Idle input front shared told size is sound e = let at = sound_at Idle shared is sound in record { front' = front; input_is = e; sound = record { holds = at.0; captures = asked_none shared.captured size at.1 }; state = λ guests live. refl; read = λ guests live. refl; poll = λ guests live. refl; wait = λ guests live. refl }
+row_next (Asked n) input front shared told size is sound e = let at = sound_at (Asked n) shared is sound in record { front' = front; input_is = e; sound = record { holds = at.0; captures = asked_any shared.captured n (max n size) at.1 }; state = λ guests live. refl; read = λ guests live. refl; poll = λ guests live. refl; wait = λ guests live. refl }
 row_next Held input front shared told size is sound e = let at = sound_at Held shared is sound in record {
   front' = front ++ take size shared.held;
   input_is = input_after input front shared.held told.left size e;
   sound = holding_sound (drop size shared.held) shared.captured shared.deliveries at.1;
-  state = λ reach i. record (shown front shared reach told) { handed = handed_more front shared.held size i; given = given_same front shared.held size i; mode = mode_after front shared.held size i };
-  read = λ reach. ap reply.Bytes (bytes_at input front shared.held told.left size e);
-  poll = λ reach. ap reply.Bytes (bytes_at input front shared.held told.left size e);
-  wait = λ reach. refl;
+  state = λ guests live i. record (shown front shared guests live told) { handed = handed_more front shared.held size i; given = given_same front shared.held size i; mode = mode_after front shared.held size i };
+  read = λ guests live. ap reply.Bytes (bytes_at input front shared.held told.left size e);
+  poll = λ guests live. ap reply.Bytes (bytes_at input front shared.held told.left size e);
+  wait = λ guests live. refl;
 }
-row_next (Failed kind) input front shared told size is sound e = let at = sound_at (Failed kind) shared is sound in record { front' = front; input_is = e; sound = record { holds = at.0; captures = at.1 }; state = λ reach. refl; read = λ reach. fault_read kind; poll = λ reach. refl; wait = λ reach. refl }
-row_next Closed input front shared told size is sound e = let at = sound_at Closed shared is sound in record { front' = front; input_is = e; sound = record { holds = at.0; captures = at.1 }; state = λ reach i. record (shown front shared reach told) { mode = sym is i }; read = λ reach. refl; poll = λ reach. refl; wait = λ reach. refl }
+row_next (Failed kind) input front shared told size is sound e = let at = sound_at (Failed kind) shared is sound in record { front' = front; input_is = e; sound = record { holds = at.0; captures = at.1 }; state = λ guests live. refl; read = λ guests live. fault_read kind; poll = λ guests live. refl; wait = λ guests live. refl }
+row_next Closed input front shared told size is sound e = let at = sound_at Closed shared is sound in record { front' = front; input_is = e; sound = record { holds = at.0; captures = at.1 }; state = λ guests live i. record (shown front shared guests live told) { mode = sym is i }; read = λ guests live. refl; poll = λ guests live. refl; wait = λ guests live. refl }

@@ -14,6 +14,8 @@ pub enum Reply {
     Bytes(Piece),
     /// How many bytes were skipped.
     Count(u64),
+    /// Whether a pollable is ready.
+    Truth(bool),
     /// Not before the next delivery.
     Pending,
     /// The size that the worker captured.

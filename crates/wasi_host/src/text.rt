@@ -58,6 +58,8 @@ fn push_text(alloc: Global, text: &mut Vec<u8>, reply: &Reply) -> Result<(), Out
         Reply::Handle(number) => push_number(text, b"handle ", u64::from(*number)),
         Reply::Bytes(piece) => push_hex(alloc, text, b"bytes ", piece.as_slice()),
         Reply::Count(count) => push_number(text, b"count ", *count),
+        Reply::Truth(true) => push_words(text, b"true", b""),
+        Reply::Truth(false) => push_words(text, b"false", b""),
         Reply::Pending => push_words(text, b"pending", b""),
         Reply::Captured(size) => push_number(text, b"captured ", *size as u64),
         Reply::Idle => push_words(text, b"idle", b""),

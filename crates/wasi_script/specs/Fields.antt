@@ -22,6 +22,10 @@ number_below limit text = option_and_then (λ number. cond (nat_lt number limit)
 abbrev pub guest_of : List ℕ → Option ℕ
 guest_of = number_below 64
 
+-- a table's capacity, from 1 to 65536
+abbrev pub capacity_of : List ℕ → Option ℕ
+capacity_of text = option_and_then (λ number. cond (nat_le 1 number) (Some number) None) (number_below 65537 text)
+
 abbrev pub exit_code_of : List ℕ → Option ℕ
 exit_code_of = number_below 256
 

@@ -1,9 +1,9 @@
 -- Which scripts are valid, and the steps that they stand for.
-use Rattle.std.specs.Prelude.{◌≡◌, ℕ, ◌+◌, Bool, true, false, cond, not, ◌&&◌, nat_eq, nat_lt, List, [], ◌∷◌, Option, Some, None, codes}
+use Rattle.std.specs.Prelude.{◌≡◌, ℕ, ◌+◌, Bool, true, false, cond, not, ◌&&◌, nat_eq, nat_le, nat_lt, List, [], ◌∷◌, Option, Some, None, codes}
 use Rattle.std.specs.List.{slice_split}
 use Rattle.std.specs.Option.{option_and_then, option_map}
 use Rattle.std.specs.Str.{bytes_eq}
-use Rattle.wasi_script.specs.Fields.{words_of, guest_of, exit_code_of, is_at_end, only_field, pair_of_numbers}
+use Rattle.wasi_script.specs.Fields.{words_of, guest_of, number_of, capacity_of, exit_code_of, is_at_end, only_field, pair_of_numbers}
 use Rattle.wasi_script.specs.declared.lines.Line.{Line}
 use Rattle.wasi_script.specs.declared.lines.Line.TheVariants as line
 use Rattle.wasi_script.specs.declared.lines.Call.{Call}
@@ -56,6 +56,10 @@ call_of = meaning_by (
     ∷ (codes "read", with_numbers call.Read)
     ∷ (codes "skip", with_numbers call.Skip)
     ∷ (codes "poll-read", with_numbers call.PollRead)
+    ∷ (codes "subscribe", with_field number_of call.Subscribe)
+    ∷ (codes "ready", with_field number_of call.Ready)
+    ∷ (codes "block", with_field number_of call.Block)
+    ∷ (codes "drop", with_field number_of call.Drop)
     ∷ (codes "exit", with_field exit_of call.Exit)
     ∷ (codes "exit-code", with_field exit_code_of call.ExitCode)
     ∷ [])
@@ -64,6 +68,7 @@ call_of = meaning_by (
 abbrev pub line_of : List (List ℕ) → Option Line
 line_of = meaning_by (
     (codes "guest", with_guest (λ fields. option_and_then input_of (only_field fields)) line.Guest)
+    ∷ (codes "capacity", with_guest (λ fields. option_and_then capacity_of (only_field fields)) line.Capacity)
     ∷ (codes "call", with_guest call_of line.Call)
     ∷ (codes "capture", without_fields line.Capture)
     ∷ (codes "deliver", without_fields line.Deliver)
@@ -78,27 +83,33 @@ abbrev pub reading_of : List ℕ → Reading
 reading_of [] = Note
 reading_of (byte ∷ bytes) = cond (nat_eq byte 35) Note (step_or_invalid (line_of (words_of (byte ∷ bytes))))
 
--- what the lines so far declared
+-- what the lines so far declared, and which guests they let call
 pub record Names : Type 0 where
   pub is_guest : ℕ → Bool
+  pub was_called : ℕ → Bool
 
 abbrev pub no_names : Names
-no_names = record { is_guest = λ number. false }
+no_names = record { is_guest = λ number. false; was_called = λ number. false }
 
--- a step may stand after lines that declared these names
+abbrev pub also : ℕ → (ℕ → Bool) → ℕ → Bool
+also guest test number = cond (nat_eq number guest) true (test number)
+
+-- a step may stand after these lines: a guest's capacity is set before its first call
 abbrev pub may_stand : Names → Line → Bool
 may_stand names (line.Guest guest input) = nat_lt guest 64 && not (names.is_guest guest)
+may_stand names (line.Capacity guest capacity) = (nat_le 1 capacity && nat_le capacity 65536) && (names.is_guest guest && not (names.was_called guest))
 may_stand names (line.Call guest call) = names.is_guest guest
 may_stand names line.Capture = true
 may_stand names line.Deliver = true
 
 abbrev pub names_after : Names → Line → Names
-names_after names (line.Guest guest input) = record { is_guest = λ number. cond (nat_eq number guest) true (names.is_guest number) }
-names_after names (line.Call guest call) = names
+names_after names (line.Guest guest input) = record { is_guest = also guest names.is_guest; was_called = names.was_called }
+names_after names (line.Capacity guest capacity) = names
+names_after names (line.Call guest call) = record { is_guest = names.is_guest; was_called = also guest names.was_called }
 names_after names line.Capture = names
 names_after names line.Deliver = names
 
--- what a line is after lines that declared these names
+-- what a line of text is after these lines
 abbrev pub if_standing : Names → Reading → Reading
 if_standing names Note = Note
 if_standing names (Step step) = cond (may_stand names step) (Step step) Invalid

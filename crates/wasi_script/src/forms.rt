@@ -5,7 +5,7 @@ ghost use Rattle.wasi_script.specs.Fields.{only_field, pair_of_numbers, is_at_en
 ghost use Rattle.wasi_script.specs.Grammar.{call_of, line_of, reading_of, exit_of, input_of};
 
 use crate::lines::{Call, ExitStatus, Input, Line};
-use crate::numbers::{parse_exit_code, parse_guest, parse_number};
+use crate::numbers::{parse_capacity, parse_exit_code, parse_guest, parse_number};
 use crate::parts::Parts;
 
 /// What a line of text is.
@@ -38,6 +38,10 @@ fn parse_line(mut words: Parts) -> Option<Line>
         let guest = parse_guest(words.next()?)?;
         let input = parse_input(only(words)?)?;
         Some(Line::Guest { guest, input })
+    } else if is(word, b"capacity") {
+        let guest = parse_guest(words.next()?)?;
+        let capacity = parse_capacity(only(words)?)?;
+        Some(Line::Capacity { guest, capacity })
     } else if is(word, b"call") {
         let guest = parse_guest(words.next()?)?;
         let call = parse_call(words)?;
@@ -68,6 +72,18 @@ fn parse_call(mut words: Parts) -> Option<Call>
     } else if is(name, b"poll-read") {
         let (number, room) = two_numbers(words)?;
         Some(Call::PollRead { number, room })
+    } else if is(name, b"subscribe") {
+        let number = parse_number(only(words)?)?;
+        Some(Call::Subscribe { number })
+    } else if is(name, b"ready") {
+        let number = parse_number(only(words)?)?;
+        Some(Call::Ready { number })
+    } else if is(name, b"block") {
+        let number = parse_number(only(words)?)?;
+        Some(Call::Block { number })
+    } else if is(name, b"drop") {
+        let number = parse_number(only(words)?)?;
+        Some(Call::Drop { number })
     } else if is(name, b"exit") {
         let status = parse_status(only(words)?)?;
         Some(Call::Exit { status })

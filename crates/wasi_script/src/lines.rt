@@ -25,6 +25,14 @@ pub enum Call {
     Skip { number: u64, size: u64 },
     /// `poll-read N ROOM`: one poll of the polled stream `number`, for at most `room` bytes.
     PollRead { number: u64, room: u64 },
+    /// `subscribe N`: a pollable of the stream `number`.
+    Subscribe { number: u64 },
+    /// `ready N`: whether the pollable `number` is ready.
+    Ready { number: u64 },
+    /// `block N`: one poll of the pollable `number`'s wait.
+    Block { number: u64 },
+    /// `drop N`: the entry `number` goes out of the guest's table.
+    Drop { number: u64 },
     /// `exit ok` or `exit err`.
     Exit { status: ExitStatus },
     /// `exit-code K`.
@@ -36,6 +44,8 @@ pub enum Call {
 pub enum Line {
     /// `guest G IN`: there is a guest of this number, from 0 to 63.
     Guest { guest: u32, input: Input },
+    /// `capacity G NUM`: the most entries that the guest's table holds, from 1 to 65536.
+    Capacity { guest: u32, capacity: u32 },
     /// `call G ..`: the guest makes a call.
     Call { guest: u32, call: Call },
     /// `capture`: the worker takes over what a guest asked for.

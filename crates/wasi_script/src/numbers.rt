@@ -1,7 +1,7 @@
 ghost use Rattle.std.specs.Prelude.{◌≡◌};
 ghost use Rattle.std.specs.List.{list_all};
 ghost use Rattle.std.specs.Char.{is_ascii_digit};
-ghost use Rattle.wasi_script.specs.Fields.{number_of, guest_of, exit_code_of};
+ghost use Rattle.wasi_script.specs.Fields.{number_of, guest_of, capacity_of, exit_code_of};
 
 /// A number of 1 to 20 decimal digits that a u64 holds. Leading zeros are fine.
 pub fn parse_number(text: &[u8]) -> Option<u64>
@@ -28,6 +28,18 @@ pub fn parse_guest(text: &[u8]) -> Option<u32>
 {
     let number = parse_number(text)?;
     if number < 64 {
+        Some(number as u32)
+    } else {
+        None
+    }
+}
+
+/// A table's capacity, from 1 to 65536 entries.
+pub fn parse_capacity(text: &[u8]) -> Option<u32>
+    ensures { result ≡ capacity_of text.now }
+{
+    let number = parse_number(text)?;
+    if 1 <= number && number <= 65536 {
         Some(number as u32)
     } else {
         None

@@ -91,7 +91,7 @@ pub fn parse_script(alloc: Global, bytes: &[u8]) -> Result<Script, ScriptError>
     Ok(Script { steps })
 }
 
-// What a line is after the declarations so far.
+// What a line is after the lines so far.
 fn read_after(guests: &Guests, text: &[u8]) -> Reading
     ensures { result ≡ reading_after (names_in guests.now) text.now }
 {

@@ -104,6 +104,7 @@ fn a_bad_line_is_told_by_its_number(rt: HostRuntime) -> Result<(), Fail> {
         "capture 1",
         "CAPTURE",
         "call 0 get-stdin",
+        "capacity 0 1",
     ];
     for line in bad_lines {
         let text = format!(in rt.alloc(); "{line}\ncapture\n")?;
@@ -128,6 +129,14 @@ fn a_bad_call_is_told_by_its_number(rt: HostRuntime) -> Result<(), Fail> {
         "call 0 read 0 +1",
         "call 0 skip 0 000000000000000000001",
         "call 0 poll-read 0 18446744073709551616",
+        "call 0 subscribe",
+        "call 0 subscribe 0 0",
+        "call 0 ready",
+        "call 0 ready 0 0",
+        "call 0 block x",
+        "call 0 block 0 0",
+        "call 0 drop",
+        "call 0 drop 18446744073709551616",
         "call 0 exit",
         "call 0 exit maybe",
         "call 0 exit-code 256",
@@ -136,5 +145,80 @@ fn a_bad_call_is_told_by_its_number(rt: HostRuntime) -> Result<(), Fail> {
         let text = format!(in rt.alloc(); "guest 0 shared\n# note\n\n{line}\n")?;
         assert_eq!(rt; bad_line(&rt, rt.alloc(), &text)?, Some(4), "{line}");
     }
+    Ok(())
+}
+
+#[test]
+fn each_form_of_the_table_is_a_step(rt: HostRuntime) -> Result<(), Fail> {
+    let text = "guest 1 shared\nguest 0 shared\ncapacity 0 1\ncall 1 subscribe 007\n\
+                capacity 0 00000000000000065536\ncall 0 ready 18446744073709551615\n\
+                call 0 block 0\ncall 1 drop 4294967296";
+    let script = parsed(&rt, rt.alloc(), text)?;
+    assert_eq!(rt; script.len(), 8);
+    let steps = [
+        Line::Guest {
+            guest: 1,
+            input: Input::Shared,
+        },
+        Line::Guest {
+            guest: 0,
+            input: Input::Shared,
+        },
+        Line::Capacity {
+            guest: 0,
+            capacity: 1,
+        },
+        Line::Call {
+            guest: 1,
+            call: Call::Subscribe { number: 7 },
+        },
+        Line::Capacity {
+            guest: 0,
+            capacity: 65536,
+        },
+        Line::Call {
+            guest: 0,
+            call: Call::Ready {
+                number: 18446744073709551615,
+            },
+        },
+        Line::Call {
+            guest: 0,
+            call: Call::Block { number: 0 },
+        },
+        Line::Call {
+            guest: 1,
+            call: Call::Drop { number: 4294967296 },
+        },
+    ];
+    assert_eq!(rt; script.steps(), steps.as_slice());
+    Ok(())
+}
+
+#[test]
+fn a_bad_capacity_is_told_by_its_number(rt: HostRuntime) -> Result<(), Fail> {
+    let bad_lines = [
+        "capacity 0 5",
+        "capacity 2 5",
+        "capacity 64 5",
+        "capacity 1 0",
+        "capacity 1 65537",
+        "capacity 1 18446744073709551616",
+        "capacity 1 x",
+        "capacity 1",
+        "capacity 1 5 5",
+        "capacity",
+        "capacity 1  5",
+    ];
+    for line in bad_lines {
+        let text = format!(in rt.alloc();
+            "guest 0 shared\nguest 1 shared\ncapacity 1 9\ncall 0 drop 0\n{line}\ncapture"
+        )?;
+        assert_eq!(rt; bad_line(&rt, rt.alloc(), &text)?, Some(5), "{line}");
+    }
+    let early = "capacity 0 5\nguest 0 shared";
+    assert_eq!(rt; bad_line(&rt, rt.alloc(), early)?, Some(1));
+    let late = "guest 0 shared\ncapacity 0 5\ncall 0 exit ok\ncapacity 0 5";
+    assert_eq!(rt; bad_line(&rt, rt.alloc(), late)?, Some(4));
     Ok(())
 }

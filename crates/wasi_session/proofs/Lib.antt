@@ -1,3 +1,4 @@
 pub mod ReadFacts
 pub mod TellFacts
 pub mod GuestFacts
+pub mod OwnFacts

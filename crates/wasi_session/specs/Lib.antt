@@ -1,3 +1,4 @@
+pub mod Refusals
 pub mod Sitting
 pub mod Reading
 pub mod Program

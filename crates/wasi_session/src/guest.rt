@@ -1,113 +1,71 @@
-ghost use Rattle.std.specs.Prelude.{◌≡◌, IfOk, OnErr, [], slice_get, true};
-ghost use Rattle.wasi_stdin.specs.Shared.{Shared, reading_of, after_read, skipped, poll_of, after_poll, wait_after_poll};
-ghost use Rattle.wasi_host.specs.Host.{Reach, Called, no_reach, made, reading_reply, skipped_reply, polling_reply, read_at, skip_at, poll_at, exit_status, call_rule, called};
+ghost use Rattle.std.specs.Prelude.{◌≡◌, ◌≤◌, IfOk, OnErr, true};
+ghost use Rattle.wasi_stdin.specs.Shared.{Shared};
+ghost use Rattle.wasi_host.specs.Reply.{ends};
+ghost use Rattle.wasi_host.specs.Calls.{exit_status, input_made, call_rule};
+ghost use Rattle.wasi_host.specs.Host.{new_guest, with_capacity, left_own, answer_to};
 
-use crate::room::room_of;
+use crate::own::Own;
 use std::alloc::Global;
 use std::marker::Model;
-use wasi_base::{OutOfMemory, TrapText};
-use wasi_host::{Entry, Piece, Reply};
-use wasi_script::{Call, ExitStatus};
-use wasi_stdin::{Answer, PolledRead, StdinCore, Wait};
+use wasi_base::OutOfMemory;
+use wasi_host::{Entry, Reply};
+use wasi_script::{Call, ExitStatus, Input};
+use wasi_stdin::{StdinCore, Wait};
 
-const MOST_ENTRIES: usize = 1024;
+/// How many entries a guest may have unless a line says otherwise.
+const CAPACITY: u32 = 1024;
 
-/// A guest: its entries by their numbers.
+/// A guest: what configuration lines say of it, what it owns, and whether it was called and
+/// whether it ended.
 #[derive(Drop)]
 pub struct Guest {
-    entries: Vec<Entry>,
+    input: Input,
+    own: Own,
+    was_called: bool,
     ended: bool,
 }
 
 impl Model for Guest {
-    ghost use Rattle.wasi_host.specs.Host.{Reach};
+    ghost use Rattle.wasi_script.specs.contracts.lines.Input.{the_row as input_row};
+    ghost use Rattle.wasi_host.specs.Host.{Guest};
+    ghost use Rattle.wasi_host.specs.Codes.{guest_code};
 
-    ghost Value = { Reach };
+    ghost Value = { Guest };
 
-    ghost view = { λ g. record { entries = g.entries.items; ended = g.ended } };
+    ghost coded = { guest_code input_row.coded };
+
+    ghost view = { λ g. record { settings = record { input = g.input }; own = g.own; was_called = g.was_called; ended = g.ended } };
 }
 
 impl Guest {
-    pub fn new(alloc: Global) -> Guest
-        ensures { result ≡ no_reach }
+    pub fn new(alloc: Global, input: Input) -> Guest
+        ensures { result ≡ new_guest input }
     {
         Guest {
-            entries: Vec::new(alloc),
+            input,
+            own: Own::new(alloc, CAPACITY),
+            was_called: false,
             ended: false,
         }
     }
 
-    fn is_ended(&self) -> bool
-        ensures { result ≡ self.now.ended }
+    /// Gives the guest room for this many entries, and none of them.
+    pub fn set_capacity(&mut self, alloc: Global, capacity: u32)
+        requires low { 1 ≤ capacity }
+        requires high { capacity ≤ 65536 }
+        ensures { self.new ≡ with_capacity capacity self.old }
     {
-        self.ended
+        self.own = Own::new(alloc, capacity);
     }
 
-    fn end(&mut self)
-        ensures { self.new ≡ record { entries = []; ended = true } }
-    {
-        self.entries.clear();
-        self.ended = true;
-    }
-
+    // an entry on the guest's standard input
     fn make(&mut self, entry: Entry) -> Result<Reply, OutOfMemory>
-        ensures done { IfOk result (λ reply. (shared : Shared) → record { reply = reply; reach = self.new; shared = shared } ≡ made entry self.old shared) }
+        ensures done { IfOk result (λ reply. (shared : Shared) → record { reply = reply; own = self.new.own; shared = shared } ≡ input_made entry self.old.settings.input self.old.own shared) }
+        ensures rest { self.new ≡ record self.old { own = self.new.own } }
         ensures err { OnErr result (self.new ≡ self.old) }
     {
-        let number = self.entries.len();
-        if number >= MOST_ENTRIES {
-            return Ok(Reply::Trap(TrapText::ResourceTableFull));
-        }
-        match self.entries.push(entry) {
-            Ok(()) => Ok(Reply::Handle(number as u32)),
-            Err(_) => Err(OutOfMemory),
-        }
-    }
-
-    fn read(
-        &self,
-        alloc: Global,
-        number: u64,
-        size: u64,
-        core: &mut StdinCore,
-    ) -> Result<Reply, OutOfMemory>
-        ensures done { IfOk result (λ reply. record { reply = reply; reach = self.now; shared = core.new } ≡ read_at (slice_get self.now.entries number) size self.now core.old) }
-        ensures err { OnErr result (core.new ≡ core.old) }
-    {
-        match self.entries.get(number as usize) {
-            None => Ok(Reply::Trap(TrapText::ResourceNotPresent)),
-            Some(Entry::Polled(_)) => Ok(Reply::Trap(TrapText::ResourceWrongType)),
-            Some(Entry::Reader) => reading(alloc, size, core),
-        }
-    }
-
-    fn skip(&self, number: u64, size: u64, core: &mut StdinCore) -> Reply
-        ensures { record { reply = result; reach = self.now; shared = core.new } ≡ skip_at (slice_get self.now.entries number) size self.now core.old }
-    {
-        match self.entries.get(number as usize) {
-            None => Reply::Trap(TrapText::ResourceNotPresent),
-            Some(Entry::Polled(_)) => Reply::Trap(TrapText::ResourceWrongType),
-            Some(Entry::Reader) => skipping(size, core),
-        }
-    }
-
-    fn poll_read(
-        &mut self,
-        alloc: Global,
-        number: u64,
-        room: u64,
-        core: &mut StdinCore,
-    ) -> Result<Reply, OutOfMemory>
-        ensures done { IfOk result (λ reply. record { reply = reply; reach = self.new; shared = core.new } ≡ poll_at (slice_get self.old.entries number) number room self.old core.old) }
-        ensures err { OnErr result ((self.new ≡ self.old) × (core.new ≡ core.old)) }
-    {
-        let place = number as usize;
-        if place >= self.entries.len() {
-            return Ok(Reply::Trap(TrapText::ResourceNotPresent));
-        }
-        match &mut self.entries[place] {
-            Entry::Reader => Ok(Reply::Trap(TrapText::ResourceWrongType)),
-            Entry::Polled(wait) => polling(alloc, wait, room, core),
+        match self.input {
+            Input::Shared => self.own.make(entry),
         }
     }
 
@@ -118,15 +76,20 @@ impl Guest {
         call: Call,
         core: &mut StdinCore,
     ) -> Result<Reply, OutOfMemory>
-        ensures done { IfOk result (λ reply. record { reply = reply; reach = self.new; shared = core.new } ≡ call_rule call self.old core.old) }
+        ensures done { IfOk result (λ reply. record { reply = reply; own = self.new.own; shared = core.new } ≡ call_rule call self.old.settings self.old.own core.old) }
+        ensures rest { self.new ≡ record self.old { own = self.new.own } }
         ensures err { OnErr result ((self.new ≡ self.old) × (core.new ≡ core.old)) }
     {
         match call {
             Call::GetStdin => self.make(Entry::Reader),
             Call::AsyncStdin => self.make(Entry::Polled(Wait::new())),
-            Call::Read { number, size } => self.read(alloc, number, size, core),
-            Call::Skip { number, size } => Ok(self.skip(number, size, core)),
-            Call::PollRead { number, room } => self.poll_read(alloc, number, room, core),
+            Call::Read { number, size } => self.own.read(alloc, number, size, core),
+            Call::Skip { number, size } => Ok(self.own.skip(number, size, core)),
+            Call::PollRead { number, room } => self.own.poll_read(alloc, number, room, core),
+            Call::Subscribe { number } => self.own.subscribe(number),
+            Call::Ready { number } => Ok(self.own.ready(number, core)),
+            Call::Block { number } => Ok(self.own.block(number, core)),
+            Call::Drop { number } => Ok(self.own.drop(number)),
             Call::Exit { status } => Ok(exit_of(status)),
             Call::ExitCode { code } => Ok(Reply::Exit(code)),
         }
@@ -139,17 +102,27 @@ impl Guest {
         call: Call,
         core: &mut StdinCore,
     ) -> Result<Reply, OutOfMemory>
-        ensures done { IfOk result (λ reply. record { reply = reply; reach = self.new; shared = core.new } ≡ called call self.old core.old) }
+        ensures done { IfOk result (λ reply. record { reply = reply; guest = self.new; shared = core.new } ≡ answer_to call self.old core.old) }
         ensures err { OnErr result ((self.new ≡ self.old) × (core.new ≡ core.old)) }
     {
-        if self.is_ended() {
+        if self.ended {
+            self.was_called = true;
             return Ok(Reply::Ended);
         }
         let reply = self.apply(alloc, call, core)?;
-        if reply.ends() {
-            self.end();
-        }
+        self.settle(&reply);
         Ok(reply)
+    }
+
+    // what becomes of the guest that is told this
+    fn settle(&mut self, reply: &Reply)
+        ensures { self.new ≡ record { settings = self.old.settings; own = left_own reply.now self.old.own; was_called = true; ended = ends reply.now } }
+    {
+        self.was_called = true;
+        self.ended = reply.ends();
+        if self.ended {
+            self.own.end();
+        }
     }
 }
 
@@ -159,54 +132,5 @@ fn exit_of(status: ExitStatus) -> Reply
     match status {
         ExitStatus::Ok => Reply::Exit(0),
         ExitStatus::Err => Reply::Exit(1),
-    }
-}
-
-fn reading(alloc: Global, size: u64, core: &mut StdinCore) -> Result<Reply, OutOfMemory>
-    ensures reply { IfOk result (λ reply. reply ≡ reading_reply (reading_of core.old size)) }
-    ensures after { IfOk result (λ reply. core.new ≡ after_read core.old size) }
-    ensures err { OnErr result (core.new ≡ core.old) }
-{
-    let mut bytes = room_of(alloc, core.would_give(size))?;
-    match core.read(size, &mut bytes) {
-        Answer::Bytes(count) => {
-            bytes.truncate(count);
-            Ok(Reply::Bytes(Piece::new(bytes)))
-        }
-        Answer::Closed => Ok(Reply::Closed),
-        Answer::Failed(kind) => Ok(Reply::Failed(kind)),
-    }
-}
-
-fn skipping(size: u64, core: &mut StdinCore) -> Reply
-    ensures reply { result ≡ skipped_reply (skipped (reading_of core.old size)) }
-    ensures after { core.new ≡ after_read core.old size }
-{
-    match core.skip(size) {
-        Answer::Bytes(count) => Reply::Count(count as u64),
-        Answer::Closed => Reply::Closed,
-        Answer::Failed(kind) => Reply::Failed(kind),
-    }
-}
-
-fn polling(
-    alloc: Global,
-    wait: &mut Wait,
-    room: u64,
-    core: &mut StdinCore,
-) -> Result<Reply, OutOfMemory>
-    ensures reply { IfOk result (λ reply. reply ≡ polling_reply (poll_of core.old wait.old room)) }
-    ensures after { IfOk result (λ reply. core.new ≡ after_poll core.old wait.old room) }
-    ensures wait { IfOk result (λ reply. wait.new ≡ wait_after_poll core.old wait.old room) }
-    ensures err { OnErr result ((core.new ≡ core.old) × (wait.new ≡ wait.old)) }
-{
-    let mut bytes = room_of(alloc, core.would_give(room))?;
-    match core.poll_read(wait, room, &mut bytes) {
-        PolledRead::Bytes(count) => {
-            bytes.truncate(count);
-            Ok(Reply::Bytes(Piece::new(bytes)))
-        }
-        PolledRead::Pending => Ok(Reply::Pending),
-        PolledRead::Failed(kind) => Ok(Reply::Failed(kind)),
     }
 }

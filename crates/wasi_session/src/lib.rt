@@ -2,11 +2,13 @@
 #![tactic(auto)]
 
 mod guest;
+mod own;
 mod program;
 mod read;
 mod room;
 mod run;
 mod session;
+mod shared;
 #[cfg(test)]
 mod tests;
 mod world;

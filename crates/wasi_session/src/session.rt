@@ -21,9 +21,12 @@ pub struct Session {
 }
 
 impl Model for Session {
-    ghost use Rattle.wasi_session.specs.Sitting.{Sitting};
+    ghost use Rattle.wasi_session.specs.contracts.world.World.{the_row as world_row};
+    ghost use Rattle.wasi_session.specs.Sitting.{Sitting, sitting_code};
 
     ghost Value = { Sitting };
+
+    ghost coded = { sitting_code world_row.coded };
 
     ghost view = { λ s. record { host = s.world; refused = s.refused } };
 }

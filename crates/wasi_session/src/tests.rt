@@ -137,6 +137,88 @@ fn polled_reads_skips_and_large_captures(rt: HostRuntime) -> Result<(), Fail> {
     Ok(())
 }
 
+#[test]
+fn a_pollable_waits_for_one_delivery(rt: HostRuntime) -> Result<(), Fail> {
+    let none = Vec::new(rt.alloc());
+    plays(
+        &rt,
+        rt.alloc(),
+        b"guest 0 shared\nguest 1 shared\ncall 0 get-stdin\ncall 1 get-stdin\ncall 1 subscribe 0\ncall 1 block 1\ncapture\ndeliver\ncall 0 read 0 9\ncall 1 block 1\ncall 1 read 0 5\ncapture\n",
+        b"ab",
+        none,
+        b"ok\nok\nhandle 0\nhandle 0\nhandle 1\nfalse\ncaptured 65536\ngave 2\nbytes 6162\ntrue\nbytes -\ncaptured 5\n",
+        b"",
+    )?;
+    let none = Vec::new(rt.alloc());
+    plays(
+        &rt,
+        rt.alloc(),
+        b"guest 0 shared\ncall 0 get-stdin\ncall 0 subscribe 0\ncall 0 read 0 7\ncall 0 ready 1\ncapture\ncall 0 ready 1\ndeliver\ncall 0 ready 1\n",
+        b"ab",
+        none,
+        b"ok\nhandle 0\nhandle 1\nbytes -\nfalse\ncaptured 7\nfalse\ngave 2\ntrue\n",
+        b"",
+    )
+}
+
+#[test]
+fn a_reader_stays_while_it_has_a_pollable(rt: HostRuntime) -> Result<(), Fail> {
+    let none = Vec::new(rt.alloc());
+    plays(
+        &rt,
+        rt.alloc(),
+        b"guest 0 shared\ncall 0 get-stdin\ncall 0 get-stdin\ncall 0 drop 0\ncall 0 get-stdin\ncall 0 subscribe 0\ncall 0 drop 0\ncall 0 drop 2\n",
+        b"",
+        none,
+        b"ok\nhandle 0\nhandle 1\nok\nhandle 0\nhandle 2\ntrap resource has children\nended\n",
+        b"",
+    )?;
+    let none = Vec::new(rt.alloc());
+    plays(
+        &rt,
+        rt.alloc(),
+        b"guest 0 shared\ncall 0 get-stdin\ncall 0 ready 0\n",
+        b"",
+        none,
+        b"ok\nhandle 0\ntrap resource has another type\n",
+        b"",
+    )?;
+    let none = Vec::new(rt.alloc());
+    plays(
+        &rt,
+        rt.alloc(),
+        b"guest 0 shared\ncall 0 get-stdin\ncall 0 read 9 1\n",
+        b"",
+        none,
+        b"ok\nhandle 0\ntrap resource not present\n",
+        b"",
+    )
+}
+
+#[test]
+fn a_table_holds_its_capacity(rt: HostRuntime) -> Result<(), Fail> {
+    let none = Vec::new(rt.alloc());
+    plays(
+        &rt,
+        rt.alloc(),
+        b"guest 0 shared\ncapacity 0 1\ncall 0 get-stdin\ncall 0 get-stdin\n",
+        b"",
+        none,
+        b"ok\nok\nhandle 0\ntrap resource table is full\n",
+        b"",
+    )?;
+    let none = Vec::new(rt.alloc());
+    plays(
+        &rt,
+        rt.alloc(),
+        b"guest 0 shared\ncapacity 0 2\ncall 0 get-stdin\ncall 0 get-stdin\ncall 0 drop 1\ncall 0 drop 0\ncall 0 get-stdin\ncall 0 get-stdin\ncall 0 get-stdin\n",
+        b"",
+        none,
+        b"ok\nok\nhandle 0\nhandle 1\nok\nok\nhandle 0\nhandle 1\ntrap resource table is full\n",
+        b"",
+    )
+}
+
 // a source that tells nothing and counts its reads
 #[derive(Drop)]
 struct Counting {

@@ -1,9 +1,10 @@
 ghost use Rattle.std.specs.Prelude.{true, ◌≡◌, ◌^◌, ◌-◌, ◌<◌, ◌≤◌, IfOk, OnOk, OnErr, is_some, Some, None, set, MatchOption, replicate};
+ghost use Rattle.std.specs.Option.{option_map};
 ghost use Rattle.wasi_base.specs.Causes.{Rose};
 ghost use Rattle.wasi_base.specs.Source.{Gives};
 ghost use Rattle.wasi_stdin.specs.Shared.{capture_of, after_capture, given_now};
 ghost use Rattle.wasi_host.specs.Reply.{OnFault};
-ghost use Rattle.wasi_host.specs.Host.{no_reach, new_host, reach_of, put_called, called_in, capture_reply, delivery_reply, after_delivery, outcome_reply, IsStep, Fits, size_read};
+ghost use Rattle.wasi_host.specs.Host.{new_guest, with_capacity, new_host, guest_of, put_answered, answer_in, capture_reply, delivery_reply, after_delivery, outcome_reply, IsStep, Fits, size_read};
 
 use crate::guest::Guest;
 use crate::room::room_of;
@@ -11,7 +12,7 @@ use std::alloc::Global;
 use std::marker::Model;
 use wasi_base::{OutOfMemory, Source};
 use wasi_host::Reply;
-use wasi_script::{Call, Line};
+use wasi_script::{Call, Input, Line};
 use wasi_stdin::{MOST_BYTES, Outcome, StdinCore, deliver_from};
 
 fn reply_with(outcome: Outcome) -> Reply
@@ -46,9 +47,14 @@ pub struct World {
 
 impl Model for World {
     ghost use Rattle.std.specs.Prelude.{◌≡◌, ◌≤◌, length};
+    ghost use Rattle.wasi_stdin.specs.contracts.stdin_core.StdinCore.{the_row as core_row};
+    ghost use Rattle.wasi_script.specs.contracts.lines.Input.{the_row as input_row};
     ghost use Rattle.wasi_host.specs.Host.{Host};
+    ghost use Rattle.wasi_host.specs.Codes.{host_code};
 
     ghost Value = { Host };
+
+    ghost coded = { host_code core_row.coded input_row.coded };
 
     ghost view = { λ w. record { shared = w.core; guests = w.guests.items } };
 
@@ -65,11 +71,23 @@ impl World {
         Ok(World { core, guests, room })
     }
 
-    fn declare(&mut self, alloc: Global, guest: u32)
+    fn declare(&mut self, alloc: Global, guest: u32, input: Input)
         requires { guest < 64 }
-        ensures { self.new ≡ record self.old { guests = set self.old.guests guest (Some no_reach) } }
+        ensures { self.new ≡ record self.old { guests = set self.old.guests guest (Some (new_guest input)) } }
     {
-        self.guests[guest as usize] = Some(Guest::new(alloc));
+        self.guests[guest as usize] = Some(Guest::new(alloc, input));
+    }
+
+    fn set_capacity(&mut self, alloc: Global, guest: u32, capacity: u32)
+        requires there { is_some (guest_of self.old guest) ≡ true }
+        requires low { 1 ≤ capacity }
+        requires high { capacity ≤ 65536 }
+        ensures { self.new ≡ record self.old { guests = set self.old.guests guest (option_map (with_capacity capacity) (guest_of self.old guest)) } }
+    {
+        match &mut self.guests[guest as usize] {
+            Some(guest) => guest.set_capacity(alloc, capacity),
+            None => unreachable!(),
+        }
     }
 
     fn capture(&mut self) -> Reply
@@ -83,9 +101,9 @@ impl World {
     }
 
     fn call(&mut self, alloc: Global, guest: u32, call: Call) -> Result<Reply, OutOfMemory>
-        requires { is_some (reach_of self.old guest) ≡ true }
-        ensures reply { IfOk result (λ reply. reply ≡ (called_in call (reach_of self.old guest) self.old.shared).reply) }
-        ensures after { OnOk result (self.new ≡ put_called self.old guest (called_in call (reach_of self.old guest) self.old.shared)) }
+        requires { is_some (guest_of self.old guest) ≡ true }
+        ensures reply { IfOk result (λ reply. reply ≡ (answer_in call (guest_of self.old guest) self.old.shared).reply) }
+        ensures after { OnOk result (self.new ≡ put_answered self.old guest (answer_in call (guest_of self.old guest) self.old.shared)) }
         ensures err { OnErr result (self.new ≡ self.old) }
     {
         match &mut self.guests[guest as usize] {
@@ -125,8 +143,12 @@ impl World {
         ensures err { OnErr result ((self.new ≡ self.old) × (stdin.new ≡ stdin.old)) }
     {
         match *line {
-            Line::Guest { guest, input: _ } => {
-                self.declare(alloc, guest);
+            Line::Guest { guest, input } => {
+                self.declare(alloc, guest, input);
+                Ok(Reply::Ok)
+            }
+            Line::Capacity { guest, capacity } => {
+                self.set_capacity(alloc, guest, capacity);
                 Ok(Reply::Ok)
             }
             Line::Call { guest, call } => self.call(alloc, guest, call),

@@ -4,3 +4,4 @@ pub mod Sound
 pub mod Laws
 pub mod Rows
 pub mod Lending
+pub mod Children
