@@ -15,6 +15,7 @@ pub record Outlet : Type 0 where
   pub taken : List ℕ
   pub limits : Limits
 
+-- what a sink tells is this
 abbrev pub IsOutlet : Option (List ℕ) → Option Limits → Outlet → Type 0
 IsOutlet taken limits out = (taken ≡ Some out.taken) × (limits ≡ Some out.limits)
 

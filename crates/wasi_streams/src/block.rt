@@ -4,7 +4,8 @@ use bytes::Bytes;
 use std::alloc::Global;
 use wasi_base::OutOfMemory;
 
-/// The greatest number of bytes that are read from a source at once.
+/// The greatest number of bytes that are read from a source at once, and that an output over a
+/// sink permits one write.
 pub(crate) const MOST_BYTES: u64 = 65536;
 
 /// A block of so many bytes.

@@ -1,6 +1,5 @@
-ghost use Rattle.std.specs.Prelude.{true, ◌≡◌, ◌≤◌, length, IfOk, Err};
+ghost use Rattle.std.specs.Prelude.{true, ◌≡◌, Err};
 ghost use Rattle.wasi_base.specs.declared.stream_error.StreamError.TheVariants.{Closed};
-ghost use Rattle.wasi_streams.specs.Answers.{OnNoMemory, NeverNoMemory};
 
 use crate::{InputStream, OutputStream, Pollable};
 use bytes::Bytes;

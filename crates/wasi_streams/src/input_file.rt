@@ -43,7 +43,7 @@ fn read_piece<S: Source>(alloc: Global, source: &mut S, room: usize) -> Result<P
     ensures fault { IfOk result (λ piece. FaultOf (S.faults source.old) piece (S.faults source.new)) }
 {
     match block_of(alloc, room) {
-        Ok(mut block) => Ok(read_into(source, block)),
+        Ok(block) => Ok(read_into(source, block)),
         Err(error) => Err(error),
     }
 }

@@ -61,7 +61,7 @@ impl MemoryInputPipe {
     {
         let count = self.count_for(size);
         match self.bytes.split_to(count) {
-            Ok(front) => Ok(front),
+            Ok(bytes) => Ok(bytes),
             Err(_) => Err(OutOfMemory),
         }
     }
@@ -107,9 +107,10 @@ impl InputStream for MemoryInputPipe {
         ensures memory { NeverNoMemory result }
     {
         if self.is_empty() {
-            return Err(StreamError::Closed);
+            Err(StreamError::Closed)
+        } else {
+            Ok(self.drop_front(size))
         }
-        Ok(self.drop_front(size))
     }
 }
 

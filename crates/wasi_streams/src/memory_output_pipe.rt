@@ -1,6 +1,6 @@
-ghost use Rattle.std.specs.Prelude.{true, ◌≡◌, ◌≤◌, [], length, min, IfOk};
+ghost use Rattle.std.specs.Prelude.{true, ◌≡◌, ◌≤◌, [], length, IfOk};
 ghost use Rattle.wasi_streams.specs.Answers.{NeverNoMemory};
-ghost use Rattle.wasi_streams.specs.MemoryPipes.{OutPipe, with_bytes, out_pipe_check_write, out_pipe_write, after_out_pipe_write, out_pipe_flush, out_pipe_poll_write, after_out_pipe_poll_write};
+ghost use Rattle.wasi_streams.specs.MemoryPipes.{with_bytes, out_pipe_check_write, out_pipe_write, after_out_pipe_write, out_pipe_flush, out_pipe_poll_write, after_out_pipe_poll_write};
 
 use crate::{OutputStream, Pollable};
 use bytes::Bytes;

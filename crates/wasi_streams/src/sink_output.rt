@@ -1,4 +1,4 @@
-ghost use Rattle.std.specs.Prelude.{true, ◌≡◌, ◌-◌, ◌^◌, Ok};
+ghost use Rattle.std.specs.Prelude.{true, ◌≡◌, ◌-◌, ◌^◌};
 
 use crate::{OutputStream, Pollable};
 use bytes::Bytes;

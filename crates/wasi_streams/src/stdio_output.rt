@@ -1,4 +1,4 @@
-ghost use Rattle.std.specs.Prelude.{true, ◌≡◌, ◌<◌, ◌≤◌, Err, Ok, length, OnOk};
+ghost use Rattle.std.specs.Prelude.{true, ◌≡◌, ◌<◌, ◌≤◌, Err, length, OnOk};
 ghost use Rattle.wasi_base.specs.Causes.{HasCause};
 ghost use Rattle.wasi_base.specs.Sink.{with_more};
 ghost use Rattle.wasi_base.specs.StreamError.{stream_error_of};
