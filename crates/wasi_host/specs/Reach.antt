@@ -1,11 +1,10 @@
 -- A call stays in its guest's reach: it changes nothing of other guests, of streams that its guest doesn't read, and
 -- of the shared input unless its guest reads that.
-use Rattle.std.proofs.Common.{◌≡◌, ℕ, Bool, true, false, cond, List, [], ◌∷◌, length, get_or, set, Option, Some, None, refl, ap, sym, ◌∙◌, true≢false}
-use Rattle.std.specs.Prelude.{nat_eq, is_some}
+use Rattle.std.proofs.Common.{◌≡◌, ℕ, Bool, true, false, cond, List, [], ◌∷◌, get_or, Option, Some, None, refl, ap, sym, ◌∙◌, true≢false}
+use Rattle.std.specs.Prelude.{is_some}
 use Rattle.std.specs.Map.{lookup, set_value}
 use Rattle.std.specs.Option.{option_map}
 use Rattle.std.specs.Str.{bytes_eq}
-use Rattle.std.specs.Bool.{Decides}
 use Rattle.std.proofs.lemmas.Bool.{ne_eqb, eq-eqb}
 use Rattle.std.proofs.lemmas.Slice.Eq.{bytes_eq-Decides}
 use Rattle.wasi_base.specs.Source.{Given}
@@ -15,8 +14,8 @@ use Rattle.wasi_script.specs.declared.lines.Input.TheVariants as input
 use Rattle.wasi_script.specs.declared.lines.Line.TheVariants as line
 use Rattle.wasi_script.specs.declared.lines.Call.{Call}
 use Rattle.wasi_host.specs.declared.stream.Stream.{Stream}
-use Rattle.wasi_host.specs.Calls.{Settings, stream_manner, call_rule}
-use Rattle.wasi_host.specs.Host.{Guest, Streams, Host, guest_of, stream_of, put_stream, answer_from, answer_by, answer_in, host_after}
+use Rattle.wasi_host.specs.Calls.{stream_manner, call_rule}
+use Rattle.wasi_host.specs.Host.{Guest, Streams, Host, guest_of, stream_of, answer_from, answer_by, answer_in, host_after}
 use Rattle.wasi_host.specs.Run.{is_shared}
 use Rattle.wasi_host.specs.Laws.{reads_name, InReach}
 use Rattle.wasi_host.specs.Shown.{get_set}

@@ -26,12 +26,7 @@ pub trait StandardInput {
         ensures after { self.new ≡ manner.after_read self.old size };
 
     /// One poll, by this wait.
-    fn poll_read(
-        &mut self,
-        alloc: Global,
-        wait: &mut Wait,
-        room: u64,
-    ) -> Result<Reply, OutOfMemory>
+    fn poll_read(&mut self, alloc: Global, wait: &mut Wait, room: u64) -> Result<Reply, OutOfMemory>
         ensures reply { IfOk result (λ reply. reply ≡ manner.poll self.old wait.old room) }
         ensures after { IfOk result (λ reply. self.new ≡ manner.after_poll self.old wait.old room) }
         ensures wait { IfOk result (λ reply. wait.new ≡ manner.wait_after_poll self.old wait.old room) }
