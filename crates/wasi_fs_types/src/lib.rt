@@ -2,6 +2,16 @@
 //! between them.
 #![tactic(auto)]
 
+mod convert;
+mod cwd_text;
+mod descriptor;
 mod error_code;
+mod flags;
+pub mod p3;
 
+pub use cwd_text::CwdText;
+pub use descriptor::{
+    Advice, DescriptorStat, DescriptorType, FsPerms, MetadataHashValue, NewTimestamp,
+};
 pub use error_code::{ErrorCode, FilesystemError, FilesystemResult};
+pub use flags::{DescriptorFlags, OpenFlags, OpenMode, PathFlags};
