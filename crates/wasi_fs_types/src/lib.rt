@@ -8,6 +8,8 @@ mod descriptor;
 mod error_code;
 mod flags;
 pub mod p3;
+#[cfg(test)]
+mod tests;
 
 pub use cwd_text::CwdText;
 pub use descriptor::{
