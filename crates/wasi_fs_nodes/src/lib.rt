@@ -5,7 +5,6 @@
 
 mod at;
 mod content;
-mod error_code;
 mod names;
 mod node;
 mod nodes;
@@ -16,7 +15,6 @@ mod text;
 
 pub use at::At;
 pub use content::Content;
-pub use error_code::ErrorCode;
 pub use names::Names;
 pub use node::{Body, Kind, Node, Times};
 pub use nodes::Nodes;

@@ -1,6 +1,6 @@
 ghost use Rattle.std.specs.Prelude.{◌≡◌};
 
-use crate::ErrorCode;
+use wasi_fs_types::ErrorCode;
 use std::alloc::AllocError;
 use std::fmt;
 
