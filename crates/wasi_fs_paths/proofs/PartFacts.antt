@@ -16,8 +16,7 @@ pub first_part : (path : List ℕ) (r : Option (Bor (List ℕ) × Bor (List ℕ)
     → MatchOption r (parts path ≡ path ∷ []) (λ x. (parts path ≡ x.0.now ∷ parts x.1.now) × (length x.1.now < length path))
 first_part path None h = slice_split_none (λ b. eqb b 47) path (no_slash path (split_parts 47 path None h (lit< tt)))
 first_part path (Some x) h =
-    let s = split_parts 47 path (Some x) h (lit< tt) in
-    (
+    let s = split_parts 47 path (Some x) h (lit< tt) in (
       ap parts s.0 ∙ slice_split_at (λ b. eqb b 47) x.0.now 47 x.1.now (no_slash x.0.now s.1) refl,
       omega (arith, ap length s.0, length-append x.0.now (47 ∷ x.1.now)),
     )

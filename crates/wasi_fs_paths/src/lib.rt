@@ -3,5 +3,9 @@
 #![tactic(auto)]
 
 mod components;
+mod place;
+mod walk;
 
-pub use components::{has_trailing_slash, is_parent, next_component};
+pub use components::{has_trailing_slash, next_component};
+pub use place::{Place, Wish};
+pub use walk::resolve;
