@@ -1,15 +1,17 @@
-use Rattle.std.proofs.Common.{◌≡◌, ℕ, zero, suc, ◌≤◌, List, [], ◌∷◌, length, Option, Some, None, Result, Ok, Err, IfOk, Bool, true, false, cond, ltb, not, refl, arith}
+use Rattle.std.proofs.Common.{◌≡◌, ℕ, zero, suc, ◌<◌, ◌≤◌, List, [], ◌∷◌, length, slice_get, Option, Some, None, Result, Ok, Err, IfOk, Bool, true, false, cond, ltb, not, refl, ap, sym, ◌∙◌, subst, arith}
+use Rattle.std.specs.Option.{ok_or}
+use Rattle.std.proofs.lemmas.Option.{slice_get_within}
 use Rattle.std.proofs.lemmas.Bool.Decides.{nat_tests}
 use Rattle.wasi_fs_types.specs.declared.error_code.ErrorCode.{ErrorCode}
 use Rattle.wasi_fs_types.specs.declared.error_code.ErrorCode.TheVariants as code
-use Rattle.wasi_fs_nodes.specs.Nodes.{kind_at, entry_at, parent_at}
+use Rattle.wasi_fs_nodes.specs.Nodes.{body_of, kind_of_body, kind_at, entry_at, parent_at}
 use Rattle.wasi_fs_nodes.specs.Outcome.{then, unless}
-use Rattle.wasi_fs_nodes.specs.Shape.{IsRooted}
+use Rattle.wasi_fs_nodes.specs.Shape.{IsRooted, NamesNodes}
 use Rattle.wasi_fs_nodes.specs.declared.node.Node.{Node}
 use Rattle.wasi_fs_nodes.specs.declared.node.Kind.{Kind}
 use Rattle.wasi_fs_nodes.specs.declared.node.Kind.TheVariants as kind
 use Rattle.wasi_fs_paths.specs.Components.{components, is_parent, is_empty, begins_with_slash, ends_with_slash}
-use Rattle.wasi_fs_paths.specs.Paths.{Place, Inside, Named, walk, last, past, back, into, into_kind, inside, settled, settled_kind, resolved}
+use Rattle.wasi_fs_paths.specs.Paths.{Place, Inside, Named, walk, last, past, back, into, into_kind, inside, settled, settled_kind, resolved, node_of}
 use Rattle.wasi_fs_paths.specs.Places.{IsPlace, IsNamed, place_of, place_result}
 use Rattle.wasi_fs_paths.specs.declared.place.Place.{Place as Lent}
 use Rattle.wasi_fs_paths.specs.declared.place.Wish.{Wish}
@@ -93,3 +95,20 @@ if_resolved nodes t start wish path h =
 pub lent_place : (nodes : List Node) (r : Result Lent ErrorCode) → IfOk (place_result r) (IsPlace nodes) → IfOk r (λ p. IsPlace nodes (place_of p))
 lent_place nodes (Ok p) h = h
 lent_place nodes (Err e) h = tt
+
+-- a number that is something is of a node that was made
+within : (nodes : List Node) (n : ℕ) (o : Option Node) → slice_get nodes n ≡ o → (k : Kind) → kind_of_body (body_of o) ≡ Some k → n < length nodes
+within nodes n None e k h = cc
+within nodes n (Some node) e k h = slice_get_within nodes n node e
+
+ok_made : (nodes : List Node) → NamesNodes nodes → (p : Place) → IsPlace nodes p → IfOk (ok_or (node_of p) code.NoEntry) (λ n. n < length nodes)
+ok_made nodes w (Inside dir) h = within nodes dir (slice_get nodes dir) refl kind.Directory h
+ok_made nodes w (Named dir name None) h = tt
+ok_made nodes w (Named dir name (Some n)) h = w dir name n (sym h.node_is)
+
+-- what a path leads to is a node that was made, or has none
+pub if_found : (nodes : List Node) → IsRooted nodes → NamesNodes nodes → (start : ℕ) (wish : Wish) (path : List ℕ) → kind_at nodes start ≡ Some kind.Directory
+    → (p : Lent) → place_result (Ok p) ≡ resolved nodes start wish path → IfOk (ok_or (node_of (place_of p)) code.NoEntry) (λ n. n < length nodes)
+if_found nodes t w start wish path d p e =
+    let P : Result Place ErrorCode → Type 0 = λ r. IfOk r (IsPlace nodes) in
+    ok_made nodes w (place_of p) (subst P (sym e) (if_resolved nodes t start wish path d))

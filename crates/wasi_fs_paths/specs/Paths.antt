@@ -1,6 +1,7 @@
 -- What a path leads to from a directory, or the code of its refusal. The path is walked from its front, and the first
 -- refusal met is the answer; at one name the rules count in the order in which they stand here.
 use Rattle.std.specs.Prelude.{ℕ, zero, suc, List, [], ◌∷◌, length, Option, Some, None, Result, Ok, Err, Bool, true, false, cond, not, ltb}
+use Rattle.std.specs.Option.{ok_or}
 use Rattle.wasi_fs_types.specs.declared.error_code.ErrorCode.{ErrorCode}
 use Rattle.wasi_fs_types.specs.declared.error_code.ErrorCode.TheVariants as code
 use Rattle.wasi_fs_nodes.specs.Nodes.{kind_at, entry_at, parent_at}
@@ -80,11 +81,7 @@ abbrev pub node_of : Place → Option ℕ
 node_of (Inside dir) = Some dir
 node_of (Named dir name node) = node
 
-abbrev pub or_no_entry : Option ℕ → Result ℕ ErrorCode
-or_no_entry (Some n) = Ok n
-or_no_entry None = Err code.NoEntry
-
 -- THE NODE THAT A PATH NAMES
 abbrev pub found : List Node → ℕ → Bool → List ℕ → Result ℕ ErrorCode
 found nodes start follow path =
-    then (resolved nodes start (record { follow = follow; may_make = false }) path) (λ place. or_no_entry (node_of place))
+    then (resolved nodes start (record { follow = follow; may_make = false }) path) (λ place. ok_or (node_of place) code.NoEntry)

@@ -1,4 +1,4 @@
-ghost use Rattle.std.specs.Prelude.{◌≡◌, ◌+◌, ◌<◌, ◌^◌, Some, IfOk};
+ghost use Rattle.std.specs.Prelude.{◌≡◌, ◌+◌, ◌<◌, ◌^◌, length, Some, IfOk};
 ghost use Rattle.wasi_fs_nodes.specs.Nodes.{kind_at};
 ghost use Rattle.wasi_fs_nodes.specs.declared.node.Kind.TheVariants.{Directory};
 ghost use Rattle.wasi_fs_paths.specs.Components.{components};
@@ -171,4 +171,25 @@ pub fn resolve<'a>(
 {
     let _ = nodes.root();
     look(nodes, start, wish, path)
+}
+
+/// The number of the node that a path names from a directory, or the code of its refusal.
+///
+/// # Errors
+///
+/// Those of `resolve` for a call that makes no entry.
+pub fn find(nodes: &Nodes, start: u64, follow: bool, path: &str) -> Result<u64, ErrorCode>
+    requires { kind_at nodes.now start ≡ Some Directory }
+    ensures is { result ≡ found nodes.now start follow path.now }
+    ensures made { IfOk result (λ n. n < length nodes.now) }
+{
+    let wish = Wish {
+        follow,
+        may_make: false,
+    };
+    let _ = nodes.root();
+    match look(nodes, start, wish, path) {
+        Ok(place) => place.node().ok_or(ErrorCode::NoEntry),
+        Err(code) => Err(code),
+    }
 }
