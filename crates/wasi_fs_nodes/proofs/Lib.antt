@@ -7,3 +7,4 @@ pub mod SumFacts
 pub mod CountFacts
 pub mod MoveFacts
 pub mod ListFacts
+pub mod KindFacts

@@ -78,21 +78,21 @@ body_at_push [] y (suc n) = inl refl
 body_at_push (x ∷ nodes) y zero = inl refl
 body_at_push (x ∷ nodes) y (suc n) = body_at_push nodes y n
 
-dir_push : (nodes : List Node) (y : Node) (n : ℕ) → kind_at nodes n ≡ Some kinds.Directory → kind_at (nodes ++ y ∷ []) n ≡ Some kinds.Directory
-dir_push nodes y n h = elim (body_at_push nodes y n) [
+pub kind_push : (nodes : List Node) (y : Node) (n : ℕ) (k : Kind) → kind_at nodes n ≡ Some k → kind_at (nodes ++ y ∷ []) n ≡ Some k
+kind_push nodes y n k h = elim (body_at_push nodes y n) [
   | inl e ↦ ap kind_of_body e ∙ h
-  | inr p ↦ absurd (no_dir (sym (ap kind_of_body p.1) ∙ h))
+  | inr p ↦ absurd (nothing k (sym (ap kind_of_body p.1) ∙ h))
 ]
   where
-    no_dir : ◌≡◌ {A = Option Kind} None (Some kinds.Directory) → ⊥
-    no_dir e = cc
+    nothing : (k : Kind) → ◌≡◌ {A = Option Kind} None (Some k) → ⊥
+    nothing k e = cc
 
 pub rooted-push : (nodes : List Node) (y : Node) → IsRooted nodes → (kind_of y.body ≡ kinds.Directory → kind_at nodes (parent_in y.body) ≡ Some kinds.Directory) → IsRooted (nodes ++ y ∷ [])
 rooted-push nodes y t s = record {
-  root = dir_push nodes y 0 t.root;
+  root = kind_push nodes y 0 kinds.Directory t.root;
   parents = λ n h. elim (body_at_push nodes y n) [
-    | inl e ↦ ap (λ b. kind_at (nodes ++ y ∷ []) (parent_of b)) e ∙ dir_push nodes y (parent_at nodes n) (t.parents n (sym (ap kind_of_body e) ∙ h))
-    | inr p ↦ ap (λ b. kind_at (nodes ++ y ∷ []) (parent_of b)) p.0 ∙ dir_push nodes y (parent_in y.body) (s (unsome (kind_of y.body) (sym (ap kind_of_body p.0) ∙ h)))
+    | inl e ↦ ap (λ b. kind_at (nodes ++ y ∷ []) (parent_of b)) e ∙ kind_push nodes y (parent_at nodes n) kinds.Directory (t.parents n (sym (ap kind_of_body e) ∙ h))
+    | inr p ↦ ap (λ b. kind_at (nodes ++ y ∷ []) (parent_of b)) p.0 ∙ kind_push nodes y (parent_in y.body) kinds.Directory (s (unsome (kind_of y.body) (sym (ap kind_of_body p.0) ∙ h)))
   ];
 }
   where
@@ -127,6 +127,9 @@ body_at-with_times (x ∷ nodes) zero zero a m = refl
 body_at-with_times (x ∷ nodes) zero (suc n) a m = refl
 body_at-with_times (x ∷ nodes) (suc i) zero a m = refl
 body_at-with_times (x ∷ nodes) (suc i) (suc n) a m = body_at-with_times nodes i n a m
+
+pub kind_at-with_times : (nodes : List Node) (i n : ℕ) (a m : Option Datetime) → kind_at (with_times nodes i a m) n ≡ kind_at nodes n
+kind_at-with_times nodes i n a m = ap kind_of_body (body_at-with_times nodes i n a m)
 
 pub rooted-with_times : (nodes : List Node) (i : ℕ) (a m : Option Datetime) → IsRooted nodes → IsRooted (with_times nodes i a m)
 rooted-with_times nodes i a m t =

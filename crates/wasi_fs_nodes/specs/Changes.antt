@@ -10,8 +10,8 @@ use Rattle.wasi_fs_nodes.specs.declared.at.At.{At}
 use Rattle.wasi_fs_nodes.specs.declared.at.At.TheVariants as at
 use Rattle.wasi_fs_nodes.specs.declared.node.Node.{Node}
 use Rattle.wasi_fs_nodes.specs.declared.node.Body.TheVariants.{File, Directory, Link}
-use Rattle.wasi_fs_nodes.specs.declared.error_code.ErrorCode.{ErrorCode}
-use Rattle.wasi_fs_nodes.specs.declared.error_code.ErrorCode.TheVariants as code
+use Rattle.wasi_fs_types.specs.declared.error_code.ErrorCode.{ErrorCode}
+use Rattle.wasi_fs_types.specs.declared.error_code.ErrorCode.TheVariants as code
 
 -- THE LIMITS: bytes of a file, bytes of all files ever made, nodes ever made
 abbrev pub file_limit : ℕ

@@ -1,4 +1,3 @@
-pub mod ErrorCode
 pub mod StoreError
 pub mod Outcome
 pub mod Content

@@ -1,6 +1,6 @@
 -- What a call answers: its outcome, or the code of a refusal.
 use Rattle.std.specs.Prelude.{◌≡◌, Option, Some, None, Result, Ok, Err, Bool, true, false}
-use Rattle.wasi_fs_nodes.specs.declared.error_code.ErrorCode.{ErrorCode}
+use Rattle.wasi_fs_types.specs.declared.error_code.ErrorCode.{ErrorCode}
 use Rattle.wasi_fs_nodes.specs.declared.store_error.StoreError.{StoreError}
 use Rattle.wasi_fs_nodes.specs.declared.store_error.StoreError.TheVariants.{Code, OutOfMemory}
 

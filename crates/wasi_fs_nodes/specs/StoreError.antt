@@ -1,6 +1,6 @@
 -- What a refused change prints.
 use Rattle.std.specs.Prelude.{ℕ, List, codes}
-use Rattle.wasi_fs_nodes.specs.ErrorCode.{code_name}
+use Rattle.wasi_fs_types.specs.ErrorCode.{code_name}
 use Rattle.wasi_fs_nodes.specs.declared.store_error.StoreError.{StoreError}
 use Rattle.wasi_fs_nodes.specs.declared.store_error.StoreError.TheVariants.{Code, OutOfMemory}
 

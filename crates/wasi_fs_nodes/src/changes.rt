@@ -1,4 +1,4 @@
-ghost use Rattle.std.specs.Prelude.{◌≡◌, ◌+◌, ◌<◌, ◌≤◌, length, Some, None, Ok, OnOk};
+ghost use Rattle.std.specs.Prelude.{◌≡◌, ◌+◌, ◌<◌, ◌≤◌, length, Some, None, Ok, IfOk, OnOk};
 ghost use Rattle.wasi_fs_nodes.specs.Nodes.{kind_at, bytes_at, entry_at, total_bytes};
 ghost use Rattle.wasi_fs_nodes.specs.Outcome.{Leaves, LeavesAlways};
 ghost use Rattle.wasi_fs_nodes.specs.Changes.{may_make, made, new_file, new_directory, new_link, linked, unlinked, directory_removed, renamed, target_refusal, put_at, moved, sized, wrote, wrote_from};
@@ -8,8 +8,9 @@ use crate::names::Names;
 use crate::node::{Body, Kind, Node, Times};
 use crate::nodes::Nodes;
 use crate::text::Text;
-use crate::{At, ErrorCode, StoreError};
+use crate::{At, StoreError};
 use wasi_clocks::Datetime;
+use wasi_fs_types::ErrorCode;
 
 /// Bytes of a file.
 const FILE_LIMIT: u64 = 1_048_576;
@@ -43,16 +44,17 @@ impl Nodes {
         Ok(())
     }
 
-    /// A new file of these bytes under a name.
+    /// A new file of these bytes under a name. The answer is its number.
     pub fn make_file(
         &mut self,
         dir: u64,
         name: &str,
         bytes: &[u8],
         now: Option<Datetime>,
-    ) -> Result<(), StoreError>
+    ) -> Result<u64, StoreError>
         requires { kind_at self.old dir ≡ Some Kind.Directory }
-        ensures { Leaves self.old self.new result (made self.old dir name.now (new_file bytes.now now)) }
+        ensures outcome { Leaves self.old self.new result (made self.old dir name.now (new_file bytes.now now)) }
+        ensures next { IfOk result (λ number. number ≡ length self.old) }
     {
         if let Err(code) = self.may_make(dir, name, bytes.len() as u64) {
             return Err(StoreError::Code(code));
@@ -64,21 +66,23 @@ impl Nodes {
             body: Body::File(content),
             times: Times::all_at(now),
         };
+        let number = self.len();
         match self.add(dir, name, node) {
-            Ok(()) => Ok(()),
+            Ok(()) => Ok(number),
             Err(_) => Err(StoreError::OutOfMemory),
         }
     }
 
-    /// A new directory with no entries under a name.
+    /// A new directory with no entries under a name. The answer is its number.
     pub fn make_directory(
         &mut self,
         dir: u64,
         name: &str,
         now: Option<Datetime>,
-    ) -> Result<(), StoreError>
+    ) -> Result<u64, StoreError>
         requires { kind_at self.old dir ≡ Some Kind.Directory }
-        ensures { Leaves self.old self.new result (made self.old dir name.now (new_directory dir now)) }
+        ensures outcome { Leaves self.old self.new result (made self.old dir name.now (new_directory dir now)) }
+        ensures next { IfOk result (λ number. number ≡ length self.old) }
     {
         if let Err(code) = self.may_make(dir, name, 0) {
             return Err(StoreError::Code(code));
@@ -87,22 +91,24 @@ impl Nodes {
             body: Body::Directory(dir, Names::new(self.alloc)),
             times: Times::all_at(now),
         };
+        let number = self.len();
         match self.add(dir, name, node) {
-            Ok(()) => Ok(()),
+            Ok(()) => Ok(number),
             Err(_) => Err(StoreError::OutOfMemory),
         }
     }
 
-    /// A new link of this text under a name.
+    /// A new link of this text under a name. The answer is its number.
     pub fn make_link(
         &mut self,
         dir: u64,
         name: &str,
         text: &str,
         now: Option<Datetime>,
-    ) -> Result<(), StoreError>
+    ) -> Result<u64, StoreError>
         requires { kind_at self.old dir ≡ Some Kind.Directory }
-        ensures { Leaves self.old self.new result (made self.old dir name.now (new_link text.now now)) }
+        ensures outcome { Leaves self.old self.new result (made self.old dir name.now (new_link text.now now)) }
+        ensures next { IfOk result (λ number. number ≡ length self.old) }
     {
         if let Err(code) = self.may_make(dir, name, 0) {
             return Err(StoreError::Code(code));
@@ -114,8 +120,9 @@ impl Nodes {
             body: Body::Link(text),
             times: Times::all_at(now),
         };
+        let number = self.len();
         match self.add(dir, name, node) {
-            Ok(()) => Ok(()),
+            Ok(()) => Ok(number),
             Err(_) => Err(StoreError::OutOfMemory),
         }
     }

@@ -7,18 +7,20 @@ mod at;
 mod changes;
 mod content;
 mod edits;
-mod error_code;
+mod laws;
 mod names;
 mod node;
 mod nodes;
 mod rows;
 mod stats;
 mod store_error;
+#[cfg(test)]
+mod tests;
 mod text;
 
 pub use at::At;
 pub use content::Content;
-pub use error_code::ErrorCode;
+pub use laws::kinds_stay;
 pub use names::Names;
 pub use node::{Body, Kind, Node, Times};
 pub use nodes::Nodes;

@@ -1,8 +1,8 @@
 ghost use Rattle.std.specs.Prelude.{◌≡◌};
 
-use crate::ErrorCode;
 use std::alloc::AllocError;
 use std::fmt;
+use wasi_fs_types::ErrorCode;
 
 /// Why a change is refused. What it would have changed is as it was.
 #[derive(Clone, Copy, Debug, PartialEq, Eq, Drop)]

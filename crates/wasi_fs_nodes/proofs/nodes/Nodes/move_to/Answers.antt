@@ -1,7 +1,7 @@
 use Rattle.std.proofs.Common.{◌≡◌, List, Result, Ok, ap, sym, ◌∙◌, arith, length}
 use Rattle.wasi_fs_nodes.specs.Nodes.{entry_at, kind_at}
 use Rattle.wasi_fs_nodes.specs.Bodies.{without_name}
-use Rattle.wasi_fs_nodes.specs.declared.error_code.ErrorCode.{ErrorCode}
+use Rattle.wasi_fs_types.specs.declared.error_code.ErrorCode.{ErrorCode}
 use Rattle.wasi_fs_nodes.specs.declared.node.Node.{Node}
 use Rattle.wasi_fs_nodes.proofs.MoveFacts.{kept_put_at, kind_at-moved, length-moved}
 use Rattle.wasi_fs_nodes.proofs.nodes.Nodes.move_to.Goals as goal

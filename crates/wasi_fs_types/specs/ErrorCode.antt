@@ -1,9 +1,9 @@
--- The words for codes, and the codes of faults.
+-- Codes: their words, and those of planned faults.
 use Rattle.std.specs.Prelude.{ℕ, List, codes}
+use Rattle.wasi_fs_types.specs.declared.error_code.ErrorCode.{ErrorCode}
+use Rattle.wasi_fs_types.specs.declared.error_code.ErrorCode.TheVariants as code
 use Rattle.wasi_base.specs.declared.io_kind.IoKind.{IoKind}
 use Rattle.wasi_base.specs.declared.io_kind.IoKind.TheVariants as kind
-use Rattle.wasi_fs_nodes.specs.declared.error_code.ErrorCode.{ErrorCode}
-use Rattle.wasi_fs_nodes.specs.declared.error_code.ErrorCode.TheVariants as code
 
 abbrev pub code_name : ErrorCode → List ℕ
 code_name code.Access = codes "access"
@@ -32,7 +32,7 @@ code_name code.NotPermitted = codes "not-permitted"
 code_name code.Pipe = codes "pipe"
 code_name code.InvalidSeek = codes "invalid-seek"
 
--- a fault of a kind that has no code of its own is Io
+-- the code that a call answers where a fault of this kind was planned
 abbrev pub code_of_kind : IoKind → ErrorCode
 code_of_kind kind.BrokenPipe = code.Pipe
 code_of_kind kind.NotFound = code.NoEntry

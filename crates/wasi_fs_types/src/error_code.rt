@@ -1,8 +1,8 @@
 ghost use Rattle.std.specs.Prelude.{◌≡◌};
-ghost use Rattle.wasi_fs_nodes.specs.ErrorCode.{code_name};
+ghost use Rattle.wasi_fs_types.specs.ErrorCode.{code_name};
 
 use std::fmt;
-use wasi_base::IoKind;
+use wasi_base::{IoKind, TrappableError};
 
 /// Why a call of the filesystem is refused. `Display` prints the word that a reply shows.
 #[derive(Clone, Copy, Debug, PartialEq, Eq, Drop)]
@@ -33,6 +33,11 @@ pub enum ErrorCode {
     Pipe,
     InvalidSeek,
 }
+
+/// A refusal that the guest is told, a trap, or want of memory.
+pub type FilesystemError = TrappableError<ErrorCode>;
+
+pub type FilesystemResult<T> = Result<T, FilesystemError>;
 
 impl ErrorCode {
     /// The code's word in replies: its name in lower case, with `-` between its words.
@@ -71,7 +76,7 @@ impl ErrorCode {
 
 impl fmt::Display for ErrorCode {
     ghost use Rattle.std.specs.Prelude.{Some};
-    ghost use Rattle.wasi_fs_nodes.specs.ErrorCode.{code_name};
+    ghost use Rattle.wasi_fs_types.specs.ErrorCode.{code_name};
 
     ghost output = { λ code. Some (code_name code) };
 
@@ -82,13 +87,13 @@ impl fmt::Display for ErrorCode {
 
 impl std::error::Error for ErrorCode {}
 
+/// The code of a planned fault. Kinds that have no code of their own are Io.
 impl From<IoKind> for ErrorCode {
     ghost use Rattle.std.specs.Prelude.{◌≡◌};
-    ghost use Rattle.wasi_fs_nodes.specs.ErrorCode.{code_of_kind};
+    ghost use Rattle.wasi_fs_types.specs.ErrorCode.{code_of_kind};
 
     ghost from_gives = { λ kind result. result ≡ code_of_kind kind };
 
-    /// The code of a planned fault: those kinds that have a code of their own, else `Io`.
     fn from(kind: IoKind) -> ErrorCode {
         match kind {
             IoKind::BrokenPipe => ErrorCode::Pipe,
