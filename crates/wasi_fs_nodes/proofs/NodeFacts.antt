@@ -1,6 +1,6 @@
 use Rattle.std.proofs.lemmas.List.{length-map}
 use Rattle.std.proofs.lemmas.Bool.Decides.{nat_tests}
-use Rattle.std.proofs.Common.{◌≡◌, ◌≢◌, ℕ, zero, suc, ◌+◌, ◌-◌, ◌<◌, List, [], ◌∷◌, length, get_or, Some, Bool, true, false, cond, eqb, ap, sym, ◌∙◌, arith}
+use Rattle.std.proofs.Common.{Option, IfSome, ◌≡◌, ◌≢◌, ℕ, zero, suc, ◌+◌, ◌-◌, ◌<◌, List, [], ◌∷◌, length, get_or, Some, None, Bool, true, false, cond, eqb, ap, sym, ◌∙◌, arith}
 use Rattle.std.specs.Ordering.{nat_cmp}
 use Rattle.std.specs.BTreeMap.{is_at}
 use Rattle.std.specs.Cmp.Lexicographic.{slice_cmp}
@@ -36,6 +36,10 @@ within (x ∷ xs) (suc n) h = omega (arith, within xs n h)
 pub names_nodes : (rows : List Row) (bytes : ℕ) → IsCounted rows bytes → NamesNodes (nodes_in rows)
 names_nodes rows bytes i dir name n h =
     omega (arith, within (links_list rows) n (rw (i.links n) (some_links (nodes_in rows) dir name n h)), length-map rows (λ (r : Row). r.links), length-map rows (λ (r : Row). r.node))
+
+pub made_entry : (nodes : List Node) (dir : ℕ) (name : List ℕ) (o : Option ℕ) → NamesNodes nodes → o ≡ entry_at nodes dir name → IfSome o (λ n. n < length nodes)
+made_entry nodes dir name None named h = tt
+made_entry nodes dir name (Some n) named h = named dir name n (sym h)
 
 -- STEPS UP
 

@@ -5,7 +5,7 @@ use Rattle.wasi_clocks.specs.declared.datetimes.Datetime.{Datetime}
 use Rattle.wasi_fs_nodes.specs.Names.{has_no_names}
 use Rattle.wasi_fs_nodes.specs.Nodes.{is_directory, names_at, entry_at, bytes_in, bytes_at, total_bytes, is_removed, is_below, all_at}
 use Rattle.wasi_fs_nodes.specs.Bodies.{with_new, with_name, with_target, with_parent, without_name, with_written, with_size}
-use Rattle.wasi_fs_nodes.specs.Outcome.{unless, unless_some}
+use Rattle.wasi_fs_nodes.specs.Outcome.{then, unless, unless_some}
 use Rattle.wasi_fs_nodes.specs.declared.at.At.{At}
 use Rattle.wasi_fs_nodes.specs.declared.at.At.TheVariants as at
 use Rattle.wasi_fs_nodes.specs.declared.node.Node.{Node}
@@ -37,18 +37,22 @@ new_link text now = record { body = Link text; times = all_at now }
 abbrev pub root_alone : Option Datetime → List Node
 root_alone now = new_directory 0 now ∷ []
 
--- as many nodes as there may be, or too many bytes with those of a new one
-abbrev pub is_full_for : List Node → Node → Bool
-is_full_for nodes node = ltb node_limit (length nodes + 1) || ltb tree_limit (total_bytes nodes + length (bytes_in node.body))
+-- as many nodes as there may be, or too many bytes with so many more
+abbrev pub is_full_for : List Node → ℕ → Bool
+is_full_for nodes size = ltb node_limit (length nodes + 1) || ltb tree_limit (total_bytes nodes + size)
+
+-- whether a new node of so many bytes may stand under a name
+abbrev pub may_make : List Node → ℕ → List ℕ → ℕ → Result (Unit {0}) ErrorCode
+may_make nodes dir name size =
+    unless (is_some (entry_at nodes dir name)) code.Exist
+    (unless (ltb file_limit size) code.FileTooLarge
+    (unless (is_removed nodes dir) code.NoEntry
+    (unless (is_full_for nodes size) code.InsufficientSpace
+    (Ok tt))))
 
 -- a new node under a name
 abbrev pub made : List Node → ℕ → List ℕ → Node → Result (List Node) ErrorCode
-made nodes dir name node =
-    unless (is_some (entry_at nodes dir name)) code.Exist
-    (unless (ltb file_limit (length (bytes_in node.body))) code.FileTooLarge
-    (unless (is_removed nodes dir) code.NoEntry
-    (unless (is_full_for nodes node) code.InsufficientSpace
-    (Ok (with_new nodes dir name node)))))
+made nodes dir name node = then (may_make nodes dir name (length (bytes_in node.body))) (λ _. Ok (with_new nodes dir name node))
 
 -- one more name for a node
 abbrev pub linked : List Node → ℕ → List ℕ → ℕ → Result (List Node) ErrorCode

@@ -25,3 +25,8 @@ abbrev pub Leaves : {A T : Type 0} → T → T → Result A StoreError → Resul
 Leaves old new (Ok a) outcome = outcome ≡ Ok new
 Leaves old new (Err (Code code)) outcome = (outcome ≡ Err code) × (new ≡ old)
 Leaves old new (Err OutOfMemory) outcome = new ≡ old
+
+-- the same for a change that takes no memory
+abbrev pub LeavesAlways : {A T : Type 0} → T → T → Result A ErrorCode → Result T ErrorCode → Type 0
+LeavesAlways old new (Ok a) outcome = outcome ≡ Ok new
+LeavesAlways old new (Err code) outcome = (outcome ≡ Err code) × (new ≡ old)

@@ -4,7 +4,9 @@
 #![tactic(auto)]
 
 mod at;
+mod changes;
 mod content;
+mod edits;
 mod names;
 mod node;
 mod nodes;

@@ -1,6 +1,9 @@
-ghost use Rattle.std.specs.Prelude.{◌≡◌, [], OnOk, OnErr, IsTrue, ◌↔◌};
+ghost use Rattle.std.specs.Prelude.{◌≡◌, [], IfOk, OnOk, OnErr, IsTrue, ◌↔◌};
 ghost use Rattle.wasi_fs_nodes.specs.Names.{has_no_names, entry_of, with_entry, without_entry, with_other};
+ghost use Rattle.wasi_fs_nodes.specs.Stats.{pairs_of};
 
+use crate::stats::Entry;
+use crate::text::Text;
 use std::alloc::{AllocError, Global};
 use std::collections::BTreeMap;
 use std::marker::Model;
@@ -62,6 +65,18 @@ impl Names {
         ensures { self.new ≡ without_entry self.old name.now }
     {
         let _ = self.map.remove(name);
+    }
+
+    /// A copy of the names in their order, each with its node.
+    pub(crate) fn list(&self, alloc: Global) -> Result<Vec<Entry>, AllocError>
+        ensures { IfOk result (λ entries. pairs_of entries.items ≡ self.now) }
+    {
+        let mut entries = Vec::with_capacity(alloc, self.map.len())?;
+        for (name, node) in self.map.iter() {
+            let name = Text::copy_of(alloc, name.as_str())?;
+            entries.push(Entry { name, node: *node })?;
+        }
+        Ok(entries)
     }
 
     fn is_empty(&self) -> bool

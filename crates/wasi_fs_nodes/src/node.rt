@@ -1,10 +1,12 @@
 ghost use Rattle.std.specs.Prelude.{◌≡◌, ◌+◌, ◌-◌, ◌<◌, ◌≤◌, ◌^◌, length, take, drop, None, Some, IfOk, OnOk, OnErr, MatchOption};
 ghost use Rattle.wasi_fs_nodes.specs.Names.{entry_of, has_no_names};
 ghost use Rattle.wasi_fs_nodes.specs.Nodes.{kind_of, names_in, parent_in, bytes_in, text_in, size_in, all_at, times_with};
+ghost use Rattle.wasi_fs_nodes.specs.Stats.{pairs_of};
 ghost use Rattle.wasi_fs_nodes.specs.Bodies.{body_with_name, body_with_other, body_with_parent, body_without_name, body_written, body_resized};
 
 use crate::content::Content;
 use crate::names::Names;
+use crate::stats::Entry;
 use crate::text::Text;
 use std::alloc::{AllocError, Global};
 use wasi_clocks::Datetime;
@@ -95,6 +97,17 @@ impl Body {
             Body::File(_) => true,
             Body::Directory(_, names) => names.has_none(),
             Body::Link(_) => true,
+        }
+    }
+
+    /// A copy of the names in their order; a file and a link have none.
+    pub(crate) fn list(&self, alloc: Global) -> Result<Vec<Entry>, AllocError>
+        ensures { IfOk result (λ entries. pairs_of entries.items ≡ names_in self.now) }
+    {
+        match self {
+            Body::File(_) => Ok(Vec::new(alloc)),
+            Body::Directory(_, names) => names.list(alloc),
+            Body::Link(_) => Ok(Vec::new(alloc)),
         }
     }
 

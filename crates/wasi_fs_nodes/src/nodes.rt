@@ -2,13 +2,14 @@ ghost use Rattle.std.specs.Prelude.{◌≡◌, ◌<◌, ◌≤◌, length, take,
 ghost use Rattle.wasi_fs_nodes.specs.Names.{has_no_names};
 ghost use Rattle.wasi_fs_nodes.specs.Nodes.{names_at, kind_at, is_directory, entry_at, parent_at, links_of, total_bytes, is_removed, is_below, bytes_at, text_at};
 ghost use Rattle.wasi_fs_nodes.specs.Shape.{IsRooted, NamesNodes};
-ghost use Rattle.wasi_fs_nodes.specs.Stats.{stat_at};
+ghost use Rattle.wasi_fs_nodes.specs.Stats.{stat_at, pairs_of};
 
 use crate::node::Kind;
 use crate::rows::Row;
-use crate::stats::Stat;
+use crate::stats::{Entry, Stat};
 use std::alloc::Global;
 use std::marker::Model;
+use wasi_base::OutOfMemory;
 
 /// The nodes of a tree by number, which contracts see as a list. The root is number 0, and a new
 /// node has the next number; a number is never given twice. How many entries name each node, and
@@ -78,14 +79,22 @@ impl Nodes {
         }
     }
 
-    /// The node that a name in a directory names. It costs the logarithm of the directory's names.
-    pub fn entry(&self, dir: u64, name: &str) -> Option<u64>
+    fn find(&self, dir: u64, name: &str) -> Option<u64>
         ensures { result ≡ entry_at self.now dir name.now }
     {
         match self.rows.get(dir as usize) {
             None => None,
             Some(row) => row.node.body.find(name),
         }
+    }
+
+    /// The node that a name in a directory names. It costs the logarithm of the directory's names.
+    pub fn entry(&self, dir: u64, name: &str) -> Option<u64>
+        ensures is { result ≡ entry_at self.now dir name.now }
+        ensures made { IfSome result (λ node. node < length self.now) }
+    {
+        let _ = &self.rows;
+        self.find(dir, name)
     }
 
     /// Whether a directory has no names.
@@ -188,6 +197,20 @@ impl Nodes {
                 size: row.node.body.size() as u64,
                 times: row.node.times,
             }),
+        }
+    }
+
+    /// A copy of the names in a directory, ascending by their bytes, each with its node. A file and
+    /// a link have none.
+    pub fn list(&self, dir: u64) -> Result<Vec<Entry>, OutOfMemory>
+        ensures { IfOk result (λ entries. pairs_of entries.items ≡ names_at self.now dir) }
+    {
+        match self.rows.get(dir as usize) {
+            None => Ok(Vec::new(self.alloc)),
+            Some(row) => match row.node.body.list(self.alloc) {
+                Ok(entries) => Ok(entries),
+                Err(_) => Err(OutOfMemory),
+            },
         }
     }
 }
