@@ -5,6 +5,7 @@ use Rattle.wasi_base.specs.declared.io_kind.IoKind.TheVariants.{Other}
 use Rattle.wasi_base.specs.declared.source.Plan.{Plan}
 use Rattle.wasi_base.specs.declared.source.Plan.TheVariants as planned
 use Rattle.wasi_base.specs.declared.sink.SinkPlan.{SinkPlan}
+use Rattle.wasi_base.specs.declared.sink.WriteStop.{WriteStop}
 use Rattle.wasi_base.specs.declared.sink.SinkPlan.TheVariants.{Take, Fail, FlushFail}
 
 -- what a sink took, with these bytes more
@@ -79,12 +80,38 @@ pub record Writes (before : Option Limits) (n : ℕ) (answer : Result ℕ IoKind
 pub record Flushes (before : Option Limits) (answer : Result (Unit {0}) IoKind) (after : Option Limits) : Type 0 where
   pub told : (l : Limits) → before ≡ Some l → (answer ≡ flushed l) × (after ≡ Some (after_flush l))
 
--- writes took so many bytes, and then one write of the rest failed with this kind
-pub record StopsAt (before : Limits) (taken rest : ℕ) (kind : IoKind) (after : Option Limits) : Type 0 where
-  pub at : Limits
-  pub room_is : at.room + taken ≡ before.room
-  pub fails : written at rest ≡ Err kind
-  pub after_is : after ≡ Some (after_write at rest)
+-- how a chain of writes ended, and what is left then
+pub record Ended : Type 0 where
+  pub answer : Result (Unit {0}) WriteStop
+  pub limits : Limits
 
-pub record Stops (before : Option Limits) (taken rest : ℕ) (kind : IoKind) (after : Option Limits) : Type 0 where
-  pub told : (l : Limits) → before ≡ Some l → StopsAt l taken rest kind after
+-- the same, where bytes went out before
+abbrev pub stop_after : ℕ → Result (Unit {0}) WriteStop → Result (Unit {0}) WriteStop
+stop_after count (Ok done) = Ok done
+stop_after count (Err stop) = Err (record { taken = count + stop.taken; kind = stop.kind })
+
+-- a write answered, and the rest follows where it took some
+abbrev pub followed : Result ℕ IoKind → Limits → (ℕ → Ended) → Ended
+followed (Ok count) limits rest = record { answer = stop_after count (rest count).answer; limits = (rest count).limits }
+followed (Err kind) limits rest = record { answer = Err (record { taken = 0; kind = kind }); limits = limits }
+
+-- writes of n bytes until all are taken or one write fails: each takes one at least, so n writes do
+abbrev pub writes_in : ℕ → Limits → ℕ → Ended
+writes_in most limits zero = record { answer = Ok tt; limits = limits }
+writes_in zero limits (suc n) = record { answer = Ok tt; limits = limits }
+writes_in (suc most) limits (suc n) = followed (written limits (suc n)) (after_write limits (suc n)) (λ count. writes_in most (after_write limits (suc n)) (suc n - count))
+
+-- all of n bytes written: the answer, with how many went out where a write failed, and what is left
+abbrev pub written_all : Limits → ℕ → Result (Unit {0}) WriteStop
+written_all limits n = (writes_in n limits n).answer
+
+abbrev pub after_write_all : Limits → ℕ → Limits
+after_write_all limits n = (writes_in n limits n).limits
+
+pub record WritesAll (before : Option Limits) (n : ℕ) (answer : Result (Unit {0}) WriteStop) (after : Option Limits) : Type 0 where
+  pub told : (l : Limits) → before ≡ Some l → (answer ≡ written_all l n) × (after ≡ Some (after_write_all l n))
+
+-- how many of n bytes went out
+abbrev pub count_out : ℕ → Result (Unit {0}) WriteStop → ℕ
+count_out n (Ok done) = n
+count_out n (Err stop) = stop.taken

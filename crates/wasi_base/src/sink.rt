@@ -1,6 +1,6 @@
-ghost use Rattle.std.specs.Prelude.{◌≡◌, ◌<◌, ◌≤◌, ◌-◌, length, take, IfOk, IfErr, OnOk, OnErr, Ok, Option, List, ℕ};
+ghost use Rattle.std.specs.Prelude.{◌≡◌, ◌<◌, ◌≤◌, length, take, IfOk, IfErr, OnOk, OnErr, Ok, Option, List, ℕ};
 ghost use Rattle.wasi_base.specs.Causes.{HasCause};
-ghost use Rattle.wasi_base.specs.Sink.{Limits, with_more, Writes, Flushes, Stops};
+ghost use Rattle.wasi_base.specs.Sink.{Limits, with_more, Writes, Flushes, WritesAll};
 
 use crate::IoKind;
 
@@ -59,7 +59,7 @@ pub struct WriteStop {
 pub fn write_all<K: Sink>(sink: &mut K, bytes: &[u8]) -> Result<(), WriteStop>
     ensures ok { OnOk result (K.taken sink.new ≡ with_more (K.taken sink.old) bytes.now) }
     ensures err { IfErr result (λ stop. (stop.taken < length bytes.now) × (K.taken sink.new ≡ with_more (K.taken sink.old) (take stop.taken bytes.now))) }
-    ensures stop { IfErr result (λ stop. Stops (K.limits sink.old) stop.taken (length bytes.now - stop.taken) stop.kind (K.limits sink.new)) }
+    ensures limits { WritesAll (K.limits sink.old) (length bytes.now) result (K.limits sink.new) }
     ensures cause { HasCause (K.faults sink.old) (K.faults sink.new) result }
 {
     let mut at = 0;

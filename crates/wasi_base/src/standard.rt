@@ -71,6 +71,80 @@ impl<'a, R: Files> Source for FileSource<'a, R> {
     }
 }
 
+/// A file of the system as a sink. It is made, or emptied where it is there, at the first write
+/// of any bytes, so a path that can't be written is a fault of that write.
+#[derive(Drop)]
+pub struct FileSink<'a, R: Files> {
+    runtime: &'a R,
+    path: String,
+    file: Option<R::File>,
+    faults: u64,
+}
+
+impl<'a, R: Files> FileSink<'a, R> {
+    pub fn new(runtime: &'a R, path: String) -> FileSink<'a, R> {
+        FileSink {
+            runtime,
+            path,
+            file: None,
+            faults: 0,
+        }
+    }
+}
+
+impl<'a, R: Files> Sink for FileSink<'a, R> {
+    ghost taken = { λ _. None };
+
+    ghost limits = { λ _. None };
+
+    ghost faults = { λ s. s.faults };
+
+    fn write(&mut self, piece: &[u8]) -> Result<usize, IoKind> {
+        if piece.is_empty() {
+            return Ok(0);
+        }
+        if self.file.is_none() {
+            match fs::create(self.runtime, self.path.as_str()) {
+                Ok(file) => self.file = Some(file),
+                Err(error) => {
+                    self.faults = self.faults.saturating_add(1);
+                    return Err(kind_of(&error));
+                }
+            }
+        }
+        match &mut self.file {
+            None => {
+                self.faults = self.faults.saturating_add(1);
+                Err(IoKind::Other)
+            }
+            Some(file) => match file.write(piece) {
+                Ok(0) => {
+                    self.faults = self.faults.saturating_add(1);
+                    Err(IoKind::WriteZero)
+                }
+                Ok(count) => Ok(count),
+                Err(error) => {
+                    self.faults = self.faults.saturating_add(1);
+                    Err(kind_of(&error))
+                }
+            },
+        }
+    }
+
+    fn flush(&mut self) -> Result<(), IoKind> {
+        match &mut self.file {
+            None => Ok(()),
+            Some(file) => match file.flush() {
+                Ok(()) => Ok(()),
+                Err(error) => {
+                    self.faults = self.faults.saturating_add(1);
+                    Err(kind_of(&error))
+                }
+            },
+        }
+    }
+}
+
 /// Standard input, or any other reader of the system, as a source.
 #[derive(Drop)]
 pub struct StdSource<R: Read + Drop> {

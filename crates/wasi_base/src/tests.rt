@@ -1,4 +1,7 @@
-use crate::{FileSource, IoKind, MemSink, MemSource, Plan, Sink, SinkPlan, Source};
+use crate::{
+    FileSink, FileSource, IoKind, MemSink, MemSource, OutOfMemory, Plan, Sink, SinkPlan, Source,
+    WriteStop, write_all,
+};
 use std::test::Fail;
 
 #[test]
@@ -37,5 +40,53 @@ fn memory_follows_its_plan(rt: HostRuntime) -> Result<(), Fail> {
     assert_eq!(rt; sink.flush(), Err(IoKind::Other));
     assert_eq!(rt; sink.flush(), Ok(()));
     assert_eq!(rt; sink.taken(), b"abc".as_slice());
+    Ok(())
+}
+
+#[test]
+fn a_file_is_made_at_the_first_write(rt: HostRuntime) -> Result<(), Fail> {
+    let alloc = rt.alloc();
+    let mut missing = FileSink::new(&rt, String::from_str(alloc, "/nonexistent/file")?);
+    assert_eq!(rt; missing.flush(), Ok(()));
+    assert_eq!(rt; missing.write(b"a"), Err(IoKind::NotFound));
+    let mut nothing = FileSink::new(&rt, String::from_str(alloc, "/dev/null")?);
+    assert_eq!(rt; nothing.write(b"abc"), Ok(3));
+    Ok(())
+}
+
+#[test]
+fn a_file_tells_its_fault(rt: HostRuntime) -> Result<(), Fail> {
+    let alloc = rt.alloc();
+    let mut folder = FileSink::new(&rt, String::from_str(alloc, "/")?);
+    assert_eq!(rt; folder.write(b"a"), Err(IoKind::IsADirectory));
+    let mut full = FileSink::new(&rt, String::from_str(alloc, "/dev/full")?);
+    assert_eq!(rt; full.write(b"a"), Err(IoKind::Other));
+    Ok(())
+}
+
+#[test]
+fn all_is_written_up_to_the_fault(rt: HostRuntime) -> Result<(), Fail> {
+    let alloc = rt.alloc();
+    let plan = Vec::from_array(alloc, [SinkPlan::Take(2), SinkPlan::Fail(IoKind::NotFound)])?;
+    let mut sink = MemSink::new(alloc, 64, plan)?;
+    let stop = WriteStop {
+        taken: 2,
+        kind: IoKind::NotFound,
+    };
+    assert_eq!(rt; write_all(&mut sink, b"abcd"), Err(stop));
+    assert_eq!(rt; sink.taken(), b"ab".as_slice());
+    Ok(())
+}
+
+fn push_one(items: &mut Vec<u8>) -> Result<(), OutOfMemory> {
+    items.push(1)?;
+    Ok(())
+}
+
+#[test]
+fn a_failed_push_is_want_of_memory(rt: HostRuntime) -> Result<(), Fail> {
+    let mut items = Vec::new(rt.alloc());
+    assert_eq!(rt; push_one(&mut items), Ok(()));
+    assert_eq!(rt; items.len(), 1);
     Ok(())
 }

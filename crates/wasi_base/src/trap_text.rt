@@ -21,6 +21,22 @@ pub enum TrapText {
     SockRecvUnsupported,
     SockSendUnsupported,
     SockShutdownUnsupported,
+    /// More bytes than the room that a pipe in memory has left.
+    WriteBeyondCapacity,
+    /// More bytes than the stream permits one write.
+    WriteExceededBudget,
+    /// The flush asked for before is not done yet.
+    WriteWhileFlushPending,
+    /// Another owner has the turn to read.
+    ConcurrentReads,
+    /// Another owner has the turn to read, and this call was to skip.
+    ConcurrentSkips,
+    /// Another owner has the turn to write, and this call was to check what it may write.
+    ConcurrentCheckWrites,
+    /// Another owner has the turn to write.
+    ConcurrentWrites,
+    /// Another owner has the turn to write, and this call was to flush.
+    ConcurrentFlushes,
 }
 
 impl fmt::Display for TrapText {
@@ -39,6 +55,16 @@ impl fmt::Display for TrapText {
             TrapText::SockRecvUnsupported => write!(f, "sock_recv unsupported"),
             TrapText::SockSendUnsupported => write!(f, "sock_send unsupported"),
             TrapText::SockShutdownUnsupported => write!(f, "sock_shutdown unsupported"),
+            TrapText::WriteBeyondCapacity => {
+                write!(f, "write beyond capacity of MemoryOutputPipe")
+            }
+            TrapText::WriteExceededBudget => write!(f, "write exceeded budget"),
+            TrapText::WriteWhileFlushPending => write!(f, "write while a flush is pending"),
+            TrapText::ConcurrentReads => write!(f, "concurrent reads are not supported"),
+            TrapText::ConcurrentSkips => write!(f, "concurrent skips are not supported"),
+            TrapText::ConcurrentCheckWrites => write!(f, "concurrent writes are not supported"),
+            TrapText::ConcurrentWrites => write!(f, "concurrent writes not supported yet"),
+            TrapText::ConcurrentFlushes => write!(f, "concurrent flushes not supported yet"),
         }
     }
 }

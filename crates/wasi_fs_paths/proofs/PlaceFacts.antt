@@ -101,14 +101,8 @@ within : (nodes : List Node) (n : ℕ) (o : Option Node) → slice_get nodes n �
 within nodes n None e k h = cc
 within nodes n (Some node) e k h = slice_get_within nodes n node e
 
-ok_made : (nodes : List Node) → NamesNodes nodes → (p : Place) → IsPlace nodes p → IfOk (ok_or (node_of p) code.NoEntry) (λ n. n < length nodes)
+-- the node at a place of the tree was made
+pub ok_made : (nodes : List Node) → NamesNodes nodes → (p : Place) → IsPlace nodes p → IfOk (ok_or (node_of p) code.NoEntry) (λ n. n < length nodes)
 ok_made nodes w (Inside dir) h = within nodes dir (slice_get nodes dir) refl kind.Directory h
 ok_made nodes w (Named dir name None) h = tt
 ok_made nodes w (Named dir name (Some n)) h = w dir name n (sym h.node_is)
-
--- what a path leads to is a node that was made, or has none
-pub if_found : (nodes : List Node) → IsRooted nodes → NamesNodes nodes → (start : ℕ) (wish : Wish) (path : List ℕ) → kind_at nodes start ≡ Some kind.Directory
-    → (p : Lent) → place_result (Ok p) ≡ resolved nodes start wish path → IfOk (ok_or (node_of (place_of p)) code.NoEntry) (λ n. n < length nodes)
-if_found nodes t w start wish path d p e =
-    let P : Result Place ErrorCode → Type 0 = λ r. IfOk r (IsPlace nodes) in
-    ok_made nodes w (place_of p) (subst P (sym e) (if_resolved nodes t start wish path d))

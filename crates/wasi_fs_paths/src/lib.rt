@@ -5,6 +5,8 @@
 mod components;
 mod laws;
 mod place;
+#[cfg(test)]
+mod tests;
 mod walk;
 
 pub use components::{has_trailing_slash, next_component};

@@ -40,9 +40,7 @@ fn into(nodes: &Nodes, depth: u64, entry: Option<u64>) -> Result<Stand, ErrorCod
     requires { depth + 1 < 2 ^ 64 }
     ensures { result ≡ into nodes.now depth entry }
 {
-    let Some(here) = entry else {
-        return Err(ErrorCode::NoEntry);
-    };
+    let here = entry.ok_or(ErrorCode::NoEntry)?;
     match nodes.kind(here) {
         None => Err(ErrorCode::NoEntry),
         Some(Kind::File) => Err(ErrorCode::NotDirectory),
@@ -188,8 +186,6 @@ pub fn find(nodes: &Nodes, start: u64, follow: bool, path: &str) -> Result<u64, 
         may_make: false,
     };
     let _ = nodes.root();
-    match look(nodes, start, wish, path) {
-        Ok(place) => place.node().ok_or(ErrorCode::NoEntry),
-        Err(code) => Err(code),
-    }
+    let place = resolve(nodes, start, wish, path)?;
+    place.node().ok_or(ErrorCode::NoEntry)
 }

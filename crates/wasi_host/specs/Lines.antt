@@ -88,6 +88,14 @@ trap_line trap.NumberOutOfRange = tested (trap_text trap.NumberOutOfRange) refl
 trap_line trap.SockRecvUnsupported = tested (trap_text trap.SockRecvUnsupported) refl
 trap_line trap.SockSendUnsupported = tested (trap_text trap.SockSendUnsupported) refl
 trap_line trap.SockShutdownUnsupported = tested (trap_text trap.SockShutdownUnsupported) refl
+trap_line trap.WriteBeyondCapacity = tested (trap_text trap.WriteBeyondCapacity) refl
+trap_line trap.WriteExceededBudget = tested (trap_text trap.WriteExceededBudget) refl
+trap_line trap.WriteWhileFlushPending = tested (trap_text trap.WriteWhileFlushPending) refl
+trap_line trap.ConcurrentReads = tested (trap_text trap.ConcurrentReads) refl
+trap_line trap.ConcurrentSkips = tested (trap_text trap.ConcurrentSkips) refl
+trap_line trap.ConcurrentCheckWrites = tested (trap_text trap.ConcurrentCheckWrites) refl
+trap_line trap.ConcurrentWrites = tested (trap_text trap.ConcurrentWrites) refl
+trap_line trap.ConcurrentFlushes = tested (trap_text trap.ConcurrentFlushes) refl
 
 dash_or_hex : (bytes : List ℕ) → IsOneLine (hex_of bytes)
 dash_or_hex [] = (refl, tt)
