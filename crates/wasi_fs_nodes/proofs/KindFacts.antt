@@ -1,18 +1,17 @@
 -- No change makes a node something else.
-use Rattle.std.proofs.Common.{◌≡◌, ℕ, ◌+◌, List, [], ◌∷◌, ◌++◌, length, Option, Some, None, is_some, Result, Ok, Err, IfOk, Bool, true, false, cond, not, ◌&&◌, ltb, refl, ap, sym, ◌∙◌}
+use Rattle.std.proofs.Common.{◌≡◌, ℕ, ◌+◌, List, [], ◌∷◌, length, Option, Some, None, is_some, Result, Ok, Err, IfOk, Bool, true, false, cond, not, ◌&&◌, ltb, ◌∙◌}
 use Rattle.wasi_clocks.specs.declared.datetimes.Datetime.{Datetime}
 use Rattle.wasi_fs_types.specs.declared.error_code.ErrorCode.{ErrorCode}
 use Rattle.wasi_fs_types.specs.declared.error_code.ErrorCode.TheVariants as code
 use Rattle.wasi_fs_nodes.specs.Names.{has_no_names}
-use Rattle.wasi_fs_nodes.specs.Nodes.{kind_at, kind_of, is_directory, names_at, entry_at, bytes_in, bytes_at, is_removed, is_below}
+use Rattle.wasi_fs_nodes.specs.Nodes.{kind_of, is_directory, names_at, entry_at, bytes_in, bytes_at, is_removed, is_below}
 use Rattle.wasi_fs_nodes.specs.Bodies.{with_body, body_with_name, body_with_other, body_with_parent, body_without_name, body_written, body_resized, with_name, with_new, with_size, with_written, with_times, without_name, with_parent}
 use Rattle.wasi_fs_nodes.specs.Outcome.{then, unless, unless_some}
 use Rattle.wasi_fs_nodes.specs.Shape.{KindsStay}
-use Rattle.wasi_fs_nodes.specs.Changes.{made, may_make, is_full_for, linked, unlinked, unlinked_entry, directory_removed, removed_entry, put_at, moved, is_node, target_refusal, renamed, renamed_onto, sized, has_no_room, wrote, wrote_from, place_of, file_limit}
+use Rattle.wasi_fs_nodes.specs.Changes.{made, may_make, linked, unlinked, unlinked_entry, directory_removed, removed_entry, put_at, moved, is_node, target_refusal, renamed, renamed_onto, sized, has_no_room, wrote, place_of, file_limit}
 use Rattle.wasi_fs_nodes.specs.declared.at.At.{At}
 use Rattle.wasi_fs_nodes.specs.declared.node.Node.{Node}
 use Rattle.wasi_fs_nodes.specs.declared.node.Body.{Body}
-use Rattle.wasi_fs_nodes.specs.declared.node.Kind.{Kind}
 use Rattle.wasi_fs_nodes.proofs.ShapeFacts.{kind_at-with_body, kind_push, kind_at-with_times, keeps_name, keeps_other, keeps_taken, keeps_written, keeps_resized, parent_kind}
 
 if_unless : (P : List Node → Type 0) (b : Bool) (refusal : ErrorCode) (r : Result (List Node) ErrorCode) → IfOk r P → IfOk (unless b refusal r) P
