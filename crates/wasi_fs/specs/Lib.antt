@@ -6,3 +6,4 @@ pub mod LookUps
 pub mod Calls
 pub mod Opening
 pub mod Listing
+pub mod Changes
