@@ -1,12 +1,18 @@
 //! Trees of files in memory, and the calls on descriptors that are open in them.
 #![tactic(auto)]
 
+mod add;
 mod descriptor;
 mod entries;
+mod list;
+mod look_ups;
+mod making;
+mod open;
 mod opening;
+mod outcome;
 mod times;
 mod tree;
 
 pub use descriptor::{Descriptor, Dir, File};
-pub use entries::DirectoryEntry;
+pub use entries::{DirectoryEntries, DirectoryEntry};
 pub use tree::Tree;
