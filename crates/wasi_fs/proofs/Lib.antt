@@ -1,0 +1,2 @@
+mod OutcomeFacts
+mod KeptFacts

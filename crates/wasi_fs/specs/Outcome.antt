@@ -19,6 +19,12 @@ from_store (Ok a) = Ok a
 from_store (Err (store.Code code)) = Err (Normal code)
 from_store (Err store.OutOfMemory) = Err OutOfMemory
 
+-- the same, where what was made is not told
+abbrev pub done : {A : Type 0} → Result A StoreError → Result (Unit {0}) (TrappableError ErrorCode)
+done (Ok a) = Ok tt
+done (Err (store.Code code)) = Err (Normal code)
+done (Err store.OutOfMemory) = Err OutOfMemory
+
 -- A LOOK-UP THAT TAKES MEMORY: the definition says its answer, unless there is none
 abbrev pub Answers : {A : Type 0} → Result A (TrappableError ErrorCode) → Result A ErrorCode → Type 0
 Answers (Ok a) outcome = outcome ≡ Ok a

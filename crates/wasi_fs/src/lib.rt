@@ -10,6 +10,8 @@ mod making;
 mod open;
 mod opening;
 mod outcome;
+#[cfg(test)]
+mod tests;
 mod times;
 mod tree;
 

@@ -35,7 +35,7 @@ fn entries_of(
         return Err(AllocError);
     };
     let mut entries = Vec::with_capacity(alloc, names.len())?;
-    for entry in names.iter() {
+    for entry in names {
         let name = String::from_str(alloc, entry.name.as_str())?;
         entries.push(DirectoryEntry {
             type_: type_of_node(nodes.kind(entry.node)),

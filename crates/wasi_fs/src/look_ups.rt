@@ -8,6 +8,7 @@ ghost use Rattle.wasi_fs.specs.Trees.{IsOf, IsOfIfHere, IsDirOf, as_directory, n
 use crate::descriptor::{Descriptor, Dir};
 use crate::outcome::told;
 use crate::tree::Tree;
+use bitflags::Flags;
 use std::alloc::Global;
 use wasi_base::TrappableError;
 use wasi_fs_nodes::{Kind, Stat};
@@ -111,13 +112,14 @@ impl Tree {
     pub fn advise(
         &self,
         at: &Descriptor,
-        _offset: u64,
-        _length: u64,
-        _advice: Advice,
+        offset: u64,
+        length: u64,
+        advice: Advice,
     ) -> FilesystemResult<()>
         requires { IsOf self.now at.now }
         ensures { result ≡ told (advised at.now) }
     {
+        let _ = (offset, length, advice);
         match at.as_file() {
             Ok(_) => Ok(()),
             Err(code) => Err(TrappableError::Normal(code)),

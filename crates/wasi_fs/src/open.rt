@@ -5,16 +5,17 @@ ghost use Rattle.wasi_fs_paths.specs.Places.{IsPlace, place_of};
 ghost use Rattle.wasi_fs.specs.Flags.{mode_for};
 ghost use Rattle.wasi_fs.specs.Opening.{asks_to_change, wants_new, well_asked, file_opened, directory_opened, directory_opened_or_refused, emptied_if, opened_kind, opened_node, opened_at, opened_from, opened};
 ghost use Rattle.wasi_fs.specs.Outcome.{Gives, GivesIn};
-ghost use Rattle.wasi_fs.specs.Trees.{IsOf};
+ghost use Rattle.wasi_fs.specs.Trees.{IsOf, KeepsDescriptors};
 
 use crate::descriptor::{Descriptor, Dir, File};
 use crate::opening::Opening;
 use crate::outcome::from_store;
 use crate::times::time_of;
 use crate::tree::Tree;
+use bitflags::Flags;
 use wasi_base::TrappableError;
 use wasi_clocks::{Datetime, WallTime};
-use wasi_fs_nodes::{Kind, Nodes, StoreError};
+use wasi_fs_nodes::{Kind, Nodes, StoreError, kinds_stay};
 use wasi_fs_paths::{Place, Wish, has_trailing_slash, resolve};
 use wasi_fs_types::{
     DescriptorFlags, ErrorCode, FilesystemResult, FsPerms, OpenFlags, OpenMode, PathFlags,
@@ -210,6 +211,25 @@ impl Tree {
     /// `IsDirectory` for a directory with `WRITE` or `TRUNCATE`. The tree is then as it was, as it
     /// is without memory.
     pub fn open_at(
+        &mut self,
+        at: &Descriptor,
+        path_flags: PathFlags,
+        path: &str,
+        how: OpenFlags,
+        flags: DescriptorFlags,
+        now: WallTime,
+        blocking: bool,
+    ) -> FilesystemResult<Descriptor>
+        requires { IsOf self.old at.now }
+        ensures gives { Gives self.old self.new result (opened self.old.nodes at.now path_flags path.now how flags now blocking) }
+        ensures of_tree { IfOk result (IsOf self.new) }
+        ensures kept { KeepsDescriptors self.old self.new }
+    {
+        kinds_stay();
+        self.open(at, path_flags, path, how, flags, now, blocking)
+    }
+
+    fn open(
         &mut self,
         at: &Descriptor,
         path_flags: PathFlags,

@@ -1,5 +1,5 @@
 ghost use Rattle.std.specs.Prelude.{◌≡◌};
-ghost use Rattle.wasi_fs.specs.Outcome.{told, from_store};
+ghost use Rattle.wasi_fs.specs.Outcome.{told, from_store, done};
 
 use wasi_base::TrappableError;
 use wasi_fs_nodes::StoreError;
@@ -21,6 +21,17 @@ pub(crate) fn from_store<T>(outcome: Result<T, StoreError>) -> FilesystemResult<
 {
     match outcome {
         Ok(answer) => Ok(answer),
+        Err(StoreError::Code(code)) => Err(TrappableError::Normal(code)),
+        Err(StoreError::OutOfMemory) => Err(TrappableError::OutOfMemory),
+    }
+}
+
+/// The same, where what was made is not told.
+pub(crate) fn done(outcome: Result<u64, StoreError>) -> FilesystemResult<()>
+    ensures { result ≡ done outcome }
+{
+    match outcome {
+        Ok(_) => Ok(()),
         Err(StoreError::Code(code)) => Err(TrappableError::Normal(code)),
         Err(StoreError::OutOfMemory) => Err(TrappableError::OutOfMemory),
     }

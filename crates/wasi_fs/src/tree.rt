@@ -1,4 +1,4 @@
-ghost use Rattle.std.specs.Prelude.{◌≡◌, Some, None, IfOk};
+ghost use Rattle.std.specs.Prelude.{◌≡◌, Some, None, false, IfOk};
 ghost use Rattle.wasi_fs_nodes.specs.Changes.{root_alone};
 ghost use Rattle.wasi_fs.specs.Times.{time_of};
 ghost use Rattle.wasi_fs.specs.Trees.{IsDirOf, after_fault};
