@@ -1,0 +1,3 @@
+mod OutcomeFacts
+mod KeptFacts
+pub mod ChangeFacts

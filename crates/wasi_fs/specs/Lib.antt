@@ -4,6 +4,6 @@ pub mod Times
 pub mod Outcome
 pub mod LookUps
 pub mod Calls
+pub mod Making
 pub mod Opening
 pub mod Listing
-pub mod Changes

@@ -1,5 +1,5 @@
 -- What the calls answer that change nothing, each with its refusals in their order.
-use Rattle.std.specs.Prelude.{ℕ, List, Option, Result, Ok, Err, Bool, ◌&&◌, eqb, option_map}
+use Rattle.std.specs.Prelude.{ℕ, List, Option, Result, Ok, Err, Bool, false, ◌&&◌, eqb, option_map}
 use Rattle.std.specs.Option.{ok_or}
 use Rattle.wasi_fs_types.specs.declared.error_code.ErrorCode.{ErrorCode}
 use Rattle.wasi_fs_types.specs.declared.error_code.ErrorCode.TheVariants as code
@@ -23,8 +23,8 @@ use Rattle.wasi_fs.specs.declared.descriptor.Descriptor.{Descriptor}
 use Rattle.wasi_fs.specs.declared.descriptor.Descriptor.TheVariants as descriptor
 
 -- the number of the node that a path names below a descriptor
-abbrev pub found_at : List Node → Descriptor → PathFlags → List ℕ → Result ℕ ErrorCode
-found_at nodes at flags path = then (as_directory at) (λ dir. found nodes dir.node (follows flags) path)
+abbrev pub found_at : List Node → Descriptor → Bool → List ℕ → Result ℕ ErrorCode
+found_at nodes at follow path = then (as_directory at) (λ dir. found nodes dir.node follow path)
 
 -- ADVISE: a file is asked
 abbrev pub advised : Descriptor → Result (Unit {0}) ErrorCode
@@ -61,11 +61,11 @@ abbrev pub stat_of : List Node → ℕ → Result DescriptorStat ErrorCode
 stat_of nodes n = ok_or (option_map stat_told (stat_at nodes n)) code.NoEntry
 
 abbrev pub stat_found : List Node → Descriptor → PathFlags → List ℕ → Result DescriptorStat ErrorCode
-stat_found nodes at flags path = then (found_at nodes at flags path) (stat_of nodes)
+stat_found nodes at flags path = then (found_at nodes at (follows flags) path) (stat_of nodes)
 
 -- READLINK-AT: what is no link is not valid
 abbrev pub link_read : List Node → Descriptor → List ℕ → Result (List ℕ) ErrorCode
-link_read nodes at path = then (found_at nodes at (record { 0 = 0 }) path) (λ n. ok_or (text_at nodes n) code.Invalid)
+link_read nodes at path = then (found_at nodes at false path) (λ n. ok_or (text_at nodes n) code.Invalid)
 
 -- IS-SAME-OBJECT
 abbrev pub is_same : Descriptor → Descriptor → Bool
@@ -76,4 +76,4 @@ abbrev pub hash_of : TreeState → ℕ → MetadataHashValue
 hash_of tree n = record { lower = n; upper = tree.number }
 
 abbrev pub hash_found : TreeState → Descriptor → PathFlags → List ℕ → Result MetadataHashValue ErrorCode
-hash_found tree at flags path = then (found_at tree.nodes at flags path) (λ n. Ok (hash_of tree n))
+hash_found tree at flags path = then (found_at tree.nodes at (follows flags) path) (λ n. Ok (hash_of tree n))

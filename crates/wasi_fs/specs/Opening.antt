@@ -28,12 +28,17 @@ use Rattle.wasi_fs.specs.declared.opening.Opening.{Opening}
 abbrev pub asks_to_change : Opening → Bool
 asks_to_change opening = creates opening.how || truncates opening.how || wants_write opening.flags || wants_to_mutate opening.flags
 
+-- what is opened has to be new
+abbrev pub wants_new : Opening → Bool
+wants_new opening = creates opening.how && is_exclusive opening.how
+
 -- THE REFUSALS THAT NEED NO PATH
-abbrev pub unless_asked_wrongly : {A : Type 0} → Opening → Result A ErrorCode → Result A ErrorCode
-unless_asked_wrongly opening on =
+abbrev pub well_asked : Opening → Result (Unit {0}) ErrorCode
+well_asked opening =
     unless (is_read_only opening.from.perms && asks_to_change opening) code.NotPermitted
     (unless (creates opening.how && wants_directory opening.how) code.Invalid
-    (unless (wants_sync opening.flags) code.Unsupported on))
+    (unless (wants_sync opening.flags) code.Unsupported
+    (Ok tt)))
 
 -- a descriptor of a node, with the perms of the directory that it was opened from
 abbrev pub file_opened : Opening → ℕ → Descriptor
@@ -41,6 +46,12 @@ file_opened opening n = descriptor.File (record { tree = opening.from.tree; node
 
 abbrev pub directory_opened : Opening → ℕ → Descriptor
 directory_opened opening n = descriptor.Dir (record { tree = opening.from.tree; node = n; perms = opening.from.perms; mode = mode_for opening.flags; blocking = opening.blocking })
+
+abbrev pub directory_opened_or_refused : Opening → ℕ → Result Descriptor ErrorCode
+directory_opened_or_refused opening n =
+    unless (wants_new opening) code.Exist
+    (unless (wants_write opening.flags || truncates opening.how) code.IsDirectory
+    (Ok (directory_opened opening n)))
 
 abbrev pub emptied_if : Bool → List Node → ℕ → List Node
 emptied_if truncates nodes n = cond truncates (with_size nodes n 0) nodes
@@ -50,13 +61,11 @@ abbrev pub opened_kind : List Node → Opening → ℕ → Option Kind → Resul
 opened_kind nodes opening n None = Err code.NoEntry
 opened_kind nodes opening n (Some kind.Link) = Err code.Loop
 opened_kind nodes opening n (Some kind.File) =
-    unless (creates opening.how && is_exclusive opening.how) code.Exist
+    unless (wants_new opening) code.Exist
     (unless (wants_directory opening.how) code.NotDirectory
     (Ok (file_opened opening n, emptied_if (truncates opening.how) nodes n)))
 opened_kind nodes opening n (Some kind.Directory) =
-    unless (creates opening.how && is_exclusive opening.how) code.Exist
-    (unless (wants_write opening.flags || truncates opening.how) code.IsDirectory
-    (Ok (directory_opened opening n, nodes)))
+    then (directory_opened_or_refused opening n) (λ opened. Ok (opened, nodes))
 
 abbrev pub opened_node : List Node → Opening → ℕ → Result (Descriptor × List Node) ErrorCode
 opened_node nodes opening n = opened_kind nodes opening n (kind_at nodes n)
@@ -70,8 +79,8 @@ opened_at nodes opening slash time (Named dir name None) =
     (then (made nodes dir name (new_file [] time)) (λ after. Ok (file_opened opening (length nodes), after)))
 
 abbrev pub opened_from : List Node → Opening → PathFlags → List ℕ → WallTime → Result (Descriptor × List Node) ErrorCode
-opened_from nodes opening path_flags path now = unless_asked_wrongly opening
-    (then (resolved nodes opening.from.node (record { follow = follows path_flags; may_make = creates opening.how }) path)
+opened_from nodes opening path_flags path now = then (well_asked opening) (λ _.
+    then (resolved nodes opening.from.node (record { follow = follows path_flags; may_make = creates opening.how }) path)
     (opened_at nodes opening (ends_with_slash path) (time_of now)))
 
 -- OPEN-AT

@@ -1,7 +1,7 @@
-ghost use Rattle.std.specs.Prelude.{◌≡◌, Some, None, IfOk};
+ghost use Rattle.std.specs.Prelude.{◌≡◌, Some, None, false, IfOk};
 ghost use Rattle.wasi_fs_nodes.specs.Changes.{root_alone};
 ghost use Rattle.wasi_fs.specs.Times.{time_of};
-ghost use Rattle.wasi_fs.specs.Trees.{IsDirOf};
+ghost use Rattle.wasi_fs.specs.Trees.{IsDirOf, after_fault};
 
 use crate::descriptor::Dir;
 use crate::times::time_of;
@@ -52,6 +52,10 @@ impl Tree {
         &self.nodes
     }
 
+    pub(crate) fn alloc(&self) -> Global {
+        self.alloc
+    }
+
     pub(crate) fn number(&self) -> u32
         ensures { result ≡ self.now.number }
     {
@@ -70,6 +74,27 @@ impl Tree {
             mode: OpenMode::READ | OpenMode::WRITE,
             blocking: false,
         }
+    }
+
+    pub(crate) fn planned(&self) -> Option<IoKind>
+        ensures { result ≡ self.now.planned }
+    {
+        self.planned
+    }
+
+    /// The planned fault is met: it is gone, and counted.
+    pub(crate) fn meet_fault(&mut self)
+        ensures { self.new ≡ after_fault self.old }
+    {
+        self.planned = None;
+        self.faults = self.faults.saturating_add(1);
+    }
+
+    /// How many planned faults were met.
+    pub fn faults(&self) -> u64
+        ensures { result ≡ self.now.faults }
+    {
+        self.faults
     }
 
     /// Plans a fault: the next call that reads, writes or lists meets it, and no other.

@@ -1,58 +1,30 @@
 ghost use Rattle.std.specs.Prelude.{◌≡◌, ◌<◌, length, Some, false};
-ghost use Rattle.wasi_fs_nodes.specs.Changes.{new_link};
 ghost use Rattle.wasi_fs_nodes.specs.Nodes.{kind_at};
 ghost use Rattle.wasi_fs_nodes.specs.Outcome.{then, Leaves as LeavesNodes};
 ghost use Rattle.wasi_fs_nodes.specs.declared.node.Kind.TheVariants.{Directory};
+ghost use Rattle.wasi_fs_paths.specs.Components.{begins_with_slash};
 ghost use Rattle.wasi_fs_paths.specs.Paths.{resolved, found};
 ghost use Rattle.wasi_fs_paths.specs.Places.{place_of, IsPlace};
-ghost use Rattle.wasi_fs.specs.Calls.{there, there_or_new, made_at, symlink_made, linked_at, link_made};
+ghost use Rattle.wasi_fs.specs.Calls.{there_or_new, symlink_made, linked_at, link_made};
 ghost use Rattle.wasi_fs.specs.Outcome.{Leaves};
 ghost use Rattle.wasi_fs.specs.Trees.{IsOf, IsOfIfHere};
 
-use crate::changes::{THERE_OR_NEW, told};
+use crate::changes::flags::follows;
 use crate::descriptor::Descriptor;
+use crate::making::{New, THERE_OR_NEW};
+use crate::outcome::from_store;
 use crate::times::time_of;
 use crate::tree::Tree;
-use bitflags::Flags;
 use wasi_base::TrappableError;
-use wasi_clocks::{Datetime, WallTime};
+use wasi_clocks::WallTime;
 use wasi_fs_nodes::{Nodes, StoreError};
 use wasi_fs_paths::{Place, find, resolve};
 use wasi_fs_types::{ErrorCode, FilesystemResult, PathFlags};
 
-fn make_at(
-    nodes: &mut Nodes,
-    place: Place<'_>,
-    text: &str,
-    now: Option<Datetime>,
-) -> Result<(), StoreError>
-    requires { IsPlace nodes.old (place_of place) }
-    ensures { LeavesNodes nodes.old nodes.new result (made_at nodes.old (λ in_dir. new_link text.now now) (place_of place.entry)) }
+fn begins_with_slash(text: &str) -> bool
+    ensures { result ≡ begins_with_slash text.now }
 {
-    match place {
-        Place::Inside(_) => Err(StoreError::Code(ErrorCode::Exist)),
-        Place::Named(dir, name, _) => match nodes.make_link(dir, name, text, now) {
-            Ok(_) => Ok(()),
-            Err(error) => Err(error),
-        },
-    }
-}
-
-/// A new link of a text by its path from a directory.
-fn make(
-    nodes: &mut Nodes,
-    start: u64,
-    path: &str,
-    text: &str,
-    now: Option<Datetime>,
-) -> Result<(), StoreError>
-    requires { kind_at nodes.old start ≡ Some Directory }
-    ensures { LeavesNodes nodes.old nodes.new result (then (resolved nodes.old start there_or_new path.now) (made_at nodes.old (λ in_dir. new_link text.now now))) }
-{
-    match resolve(nodes, start, THERE_OR_NEW, path) {
-        Err(code) => Err(StoreError::Code(code)),
-        Ok(place) => make_at(nodes, place, text, now),
-    }
+    text.starts_with("/")
 }
 
 fn link_at_place(nodes: &mut Nodes, node: u64, place: Place<'_>) -> Result<(), StoreError>
@@ -73,13 +45,7 @@ fn link_at_place(nodes: &mut Nodes, node: u64, place: Place<'_>) -> Result<(), S
 }
 
 /// One more name for what a path names.
-fn link(
-    nodes: &mut Nodes,
-    from: u64,
-    path: &str,
-    to: u64,
-    to_path: &str,
-) -> Result<(), StoreError>
+fn link(nodes: &mut Nodes, from: u64, path: &str, to: u64, to_path: &str) -> Result<(), StoreError>
     requires from { kind_at nodes.old from ≡ Some Directory }
     requires to { kind_at nodes.old to ≡ Some Directory }
     ensures { LeavesNodes nodes.old nodes.new result (then (found nodes.old from false path.now) (λ node. then (resolved nodes.old to there_or_new to_path.now) (linked_at nodes.old node))) }
@@ -116,10 +82,10 @@ impl Tree {
             Err(code) => return Err(TrappableError::Normal(code)),
             Ok(dir) => dir,
         };
-        if text.starts_with("/") {
+        if begins_with_slash(text) {
             return Err(TrappableError::Normal(ErrorCode::NotPermitted));
         }
-        told(make(&mut self.nodes, dir.node, path, text, time_of(now)))
+        self.make_below(dir, path, New::Link(text), time_of(now))
     }
 
     /// Gives a file or a link one more name.
@@ -146,9 +112,9 @@ impl Tree {
             Err(code) => return Err(TrappableError::Normal(code)),
             Ok(dirs) => dirs,
         };
-        if flags.contains(PathFlags::SYMLINK_FOLLOW) {
+        if follows(flags) {
             return Err(TrappableError::Normal(ErrorCode::Invalid));
         }
-        told(link(&mut self.nodes, from.node, path, onto.node, to_path))
+        from_store(link(&mut self.nodes, from.node, path, onto.node, to_path))
     }
 }

@@ -8,8 +8,9 @@ ghost use Rattle.wasi_fs.specs.Calls.{there, there_or_new, file_unlinked, file_u
 ghost use Rattle.wasi_fs.specs.Outcome.{Leaves};
 ghost use Rattle.wasi_fs.specs.Trees.{IsOf, IsOfIfHere};
 
-use crate::changes::{THERE, THERE_OR_NEW, told};
 use crate::descriptor::Descriptor;
+use crate::making::{THERE, THERE_OR_NEW};
+use crate::outcome::from_store;
 use crate::tree::Tree;
 use wasi_base::TrappableError;
 use wasi_fs_nodes::{Nodes, StoreError};
@@ -89,7 +90,7 @@ impl Tree {
             Err(code) => return Err(TrappableError::Normal(code)),
             Ok(dir) => dir,
         };
-        told(unlink(&mut self.nodes, dir.node, path))
+        from_store(unlink(&mut self.nodes, dir.node, path))
     }
 
     /// What the first path names takes the place of the second one. Two names of one node stay as
@@ -118,6 +119,6 @@ impl Tree {
             Err(code) => return Err(TrappableError::Normal(code)),
             Ok(dirs) => dirs,
         };
-        told(rename(&mut self.nodes, from.node, path, onto.node, to_path))
+        from_store(rename(&mut self.nodes, from.node, path, onto.node, to_path))
     }
 }

@@ -2,12 +2,12 @@ ghost use Rattle.wasi_fs.specs.Calls.{size_set};
 ghost use Rattle.wasi_fs.specs.Outcome.{Leaves};
 ghost use Rattle.wasi_fs.specs.Trees.{IsOf};
 
-use crate::changes::told;
+use crate::changes::flags::may_write;
 use crate::descriptor::Descriptor;
+use crate::outcome::from_store;
 use crate::tree::Tree;
-use bitflags::Flags;
 use wasi_base::TrappableError;
-use wasi_fs_types::{ErrorCode, FilesystemResult, FsPerms, OpenMode};
+use wasi_fs_types::{ErrorCode, FilesystemResult, FsPerms};
 
 impl Tree {
     /// Cuts a file to a size, or fills it with zeros. Its times stay.
@@ -27,9 +27,9 @@ impl Tree {
         if file.perms == FsPerms::ReadOnly {
             return Err(TrappableError::Normal(ErrorCode::NotPermitted));
         }
-        if !file.mode.contains(OpenMode::WRITE) {
+        if !may_write(file.mode) {
             return Err(TrappableError::Normal(ErrorCode::NotPermitted));
         }
-        told(self.nodes.set_size(file.node, size))
+        from_store(self.nodes.set_size(file.node, size))
     }
 }

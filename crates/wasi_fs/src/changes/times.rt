@@ -1,14 +1,21 @@
-ghost use Rattle.std.specs.Prelude.{◌≡◌};
+ghost use Rattle.std.specs.Prelude.{◌≡◌, Some, Ok};
+ghost use Rattle.wasi_fs_nodes.specs.Bodies.{with_times};
+ghost use Rattle.wasi_fs_nodes.specs.Nodes.{kind_at};
+ghost use Rattle.wasi_fs_nodes.specs.Outcome.{then, Leaves as LeavesNodes};
+ghost use Rattle.wasi_fs_nodes.specs.declared.node.Kind.TheVariants.{Directory};
+ghost use Rattle.wasi_fs_paths.specs.Paths.{found};
 ghost use Rattle.wasi_fs.specs.Calls.{times_for, times_set, times_set_at};
 ghost use Rattle.wasi_fs.specs.Outcome.{Leaves};
 ghost use Rattle.wasi_fs.specs.Trees.{IsOf};
 
+use crate::changes::flags::follows;
 use crate::descriptor::Descriptor;
+use crate::outcome::from_store;
 use crate::times::new_time;
 use crate::tree::Tree;
-use bitflags::Flags;
 use wasi_base::TrappableError;
 use wasi_clocks::{Datetime, WallTime};
+use wasi_fs_nodes::{Nodes, StoreError};
 use wasi_fs_paths::find;
 use wasi_fs_types::{ErrorCode, FilesystemResult, FsPerms, NewTimestamp, PathFlags};
 
@@ -24,6 +31,27 @@ fn times_for(
         (Err(code), _) => Err(code),
         (Ok(_), Err(code)) => Err(code),
         (Ok(access), Ok(modified)) => Ok((access, modified)),
+    }
+}
+
+/// Other times for what a path names from a directory.
+fn set_at(
+    nodes: &mut Nodes,
+    start: u64,
+    follow: bool,
+    path: &str,
+    access: Option<Datetime>,
+    modified: Option<Datetime>,
+) -> Result<(), StoreError>
+    requires { kind_at nodes.old start ≡ Some Directory }
+    ensures { LeavesNodes nodes.old nodes.new result (then (found nodes.old start follow path.now) (λ n. Ok (with_times nodes.old n access modified))) }
+{
+    match find(nodes, start, follow, path) {
+        Err(code) => Err(StoreError::Code(code)),
+        Ok(node) => {
+            nodes.set_times(node, access, modified);
+            Ok(())
+        }
     }
 }
 
@@ -81,13 +109,7 @@ impl Tree {
             Err(code) => return Err(TrappableError::Normal(code)),
             Ok(dir) => dir,
         };
-        let follow = flags.contains(PathFlags::SYMLINK_FOLLOW);
-        match find(&self.nodes, dir.node, follow, path) {
-            Err(code) => Err(TrappableError::Normal(code)),
-            Ok(node) => {
-                self.nodes.set_times(node, access, modified);
-                Ok(())
-            }
-        }
+        let follow = follows(flags);
+        from_store(set_at(&mut self.nodes, dir.node, follow, path, access, modified))
     }
 }
