@@ -17,4 +17,5 @@ mod tree;
 
 pub use descriptor::{Descriptor, Dir, File};
 pub use entries::{DirectoryEntries, DirectoryEntry};
+pub use list::map_dir_entry;
 pub use tree::Tree;
