@@ -1,2 +1,3 @@
 mod OutcomeFacts
 mod KeptFacts
+mod ListFacts

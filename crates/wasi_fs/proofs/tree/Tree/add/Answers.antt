@@ -5,5 +5,5 @@ use Rattle.wasi_fs.proofs.tree.Tree.add.Goals as goal
 
 pub returns-clause-kept : goal.returns-clause-kept
 returns-clause-kept c =
-    left_kept c.args.self.old c.change.new.self c.change.result (added c.args.self.old.nodes c.args.path.now (node_for c.args.new c.args.time)) c.change.ensures
-    (added_stay c.kinds_stay.ensures.made c.args.self.old.nodes c.args.path.now (node_for c.args.new c.args.time))
+    left_kept c.args.self.now c.change.new.self c.change.result (added c.args.self.now.nodes c.args.path.now (node_for c.args.new c.args.time)) c.change.ensures
+    (added_stay c.kinds_stay.ensures.made c.args.self.now.nodes c.args.path.now (node_for c.args.new c.args.time))
