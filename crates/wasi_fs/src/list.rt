@@ -24,11 +24,7 @@ fn type_of_node(kind: Option<Kind>) -> DescriptorType
 }
 
 /// The entries of a directory.
-fn entries_of(
-    nodes: &Nodes,
-    alloc: Global,
-    dir: u64,
-) -> Result<Vec<DirectoryEntry>, AllocError>
+fn entries_of(nodes: &Nodes, alloc: Global, dir: u64) -> Result<Vec<DirectoryEntry>, AllocError>
     ensures { IfOk result (λ entries. entries.items ≡ entries_told nodes.now (names_at nodes.now dir)) }
 {
     let Ok(names) = nodes.list(dir) else {

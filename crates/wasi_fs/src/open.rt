@@ -195,7 +195,13 @@ fn open_path(
         may_make: opening.how.contains(OpenFlags::CREATE),
     };
     match resolve(nodes, opening.from.node, wish, path) {
-        Ok(place) => open_place(nodes, opening, has_trailing_slash(path), time_of(now), place),
+        Ok(place) => open_place(
+            nodes,
+            opening,
+            has_trailing_slash(path),
+            time_of(now),
+            place,
+        ),
         Err(code) => Err(StoreError::Code(code)),
     }
 }

@@ -90,12 +90,26 @@ fn a_directory_is_opened(rt: HostRuntime) {
     let mut tree = small_tree(&rt, rt.alloc());
     let root = root_of(&tree);
     let none = (OpenFlags::empty(), DescriptorFlags::empty());
-    let opened = tree.open_at(&root, PathFlags::empty(), "d", none.0, none.1, epoch(), false);
+    let opened = tree.open_at(
+        &root,
+        PathFlags::empty(),
+        "d",
+        none.0,
+        none.1,
+        epoch(),
+        false,
+    );
     match opened {
         Ok(at) => {
-            assert!(rt; tree.get_type(&at).is_ok_and(|kind| kind == DescriptorType::Directory));
+            assert!(rt;
+                tree.get_type(&at)
+                    .is_ok_and(|kind| kind == DescriptorType::Directory)
+            );
             assert!(rt; tree.is_same_object(&at, &root).is_ok_and(|same| !same));
-            assert!(rt; tree.metadata_hash(&at).is_ok_and(|hash| (hash.lower, hash.upper) == (1, 0)));
+            assert!(rt;
+                tree.metadata_hash(&at)
+                    .is_ok_and(|hash| (hash.lower, hash.upper) == (1, 0))
+            );
         }
         Err(_) => assert!(rt; false, "not opened"),
     }
@@ -123,10 +137,28 @@ fn openings_that_are_refused(rt: HostRuntime) {
         (plain, "x", none, write, ErrorCode::NoEntry),
         (plain, "x/", create, write, ErrorCode::IsDirectory),
         (plain, ".", new, write, ErrorCode::Exist),
-        (plain, "d/f", new | OpenFlags::TRUNCATE, write, ErrorCode::Exist),
-        (plain, "d/f", directory | OpenFlags::TRUNCATE, write, ErrorCode::NotDirectory),
+        (
+            plain,
+            "d/f",
+            new | OpenFlags::TRUNCATE,
+            write,
+            ErrorCode::Exist,
+        ),
+        (
+            plain,
+            "d/f",
+            directory | OpenFlags::TRUNCATE,
+            write,
+            ErrorCode::NotDirectory,
+        ),
         (plain, "d", directory, write, ErrorCode::IsDirectory),
-        (plain, "d", OpenFlags::TRUNCATE, read, ErrorCode::IsDirectory),
+        (
+            plain,
+            "d",
+            OpenFlags::TRUNCATE,
+            read,
+            ErrorCode::IsDirectory,
+        ),
     ];
     for (path_flags, path, how, flags, code) in rows {
         let root = root_of(&tree);
@@ -141,15 +173,43 @@ fn openings_to_read_alone(rt: HostRuntime) {
     let none = OpenFlags::empty();
     let read = DescriptorFlags::READ;
     let rows = [
-        ("/x", OpenFlags::CREATE | OpenFlags::DIRECTORY, read, Some(ErrorCode::NotPermitted)),
-        ("d/f", OpenFlags::TRUNCATE, read, Some(ErrorCode::NotPermitted)),
-        ("d/f", none, DescriptorFlags::WRITE, Some(ErrorCode::NotPermitted)),
-        ("d", none, DescriptorFlags::MUTATE_DIRECTORY, Some(ErrorCode::NotPermitted)),
+        (
+            "/x",
+            OpenFlags::CREATE | OpenFlags::DIRECTORY,
+            read,
+            Some(ErrorCode::NotPermitted),
+        ),
+        (
+            "d/f",
+            OpenFlags::TRUNCATE,
+            read,
+            Some(ErrorCode::NotPermitted),
+        ),
+        (
+            "d/f",
+            none,
+            DescriptorFlags::WRITE,
+            Some(ErrorCode::NotPermitted),
+        ),
+        (
+            "d",
+            none,
+            DescriptorFlags::MUTATE_DIRECTORY,
+            Some(ErrorCode::NotPermitted),
+        ),
         ("d/f", OpenFlags::EXCLUSIVE, read, None),
     ];
     for (path, how, flags, code) in rows {
         let root = read_only_root_of(&tree);
-        let refused = code_of(tree.open_at(&root, PathFlags::empty(), path, how, flags, epoch(), false));
+        let refused = code_of(tree.open_at(
+            &root,
+            PathFlags::empty(),
+            path,
+            how,
+            flags,
+            epoch(),
+            false,
+        ));
         assert_eq!(rt; refused, code, "{path}");
     }
 }

@@ -15,10 +15,7 @@ pub(crate) fn time_of(wall: WallTime) -> Option<Datetime>
 }
 
 /// The time that a node is given; `None` leaves the one that it has.
-pub(crate) fn new_time(
-    new: NewTimestamp,
-    now: WallTime,
-) -> Result<Option<Datetime>, ErrorCode>
+pub(crate) fn new_time(new: NewTimestamp, now: WallTime) -> Result<Option<Datetime>, ErrorCode>
     ensures { result ≡ new_time new now }
 {
     let time = match new {
