@@ -1,8 +1,11 @@
 -- The names of a directory, as they are listed.
-use Rattle.std.specs.Prelude.{ℕ, List, [], ◌∷◌, Option, Some, None, Result, Ok, Err}
+use Rattle.std.specs.Prelude.{ℕ, List, [], ◌∷◌, Option, Some, None, Result, Ok, Err, ◌≡◌, IsUtf8}
 use Rattle.wasi_base.specs.declared.io_kind.IoKind.{IoKind}
 use Rattle.wasi_fs_types.specs.ErrorCode.{code_of_kind}
 use Rattle.wasi_fs_types.specs.declared.error_code.ErrorCode.{ErrorCode}
+use Rattle.wasi_fs_types.specs.declared.error_code.ErrorCode.TheVariants as code
+use Rattle.wasi_fs_nodes.specs.declared.store_error.StoreError.{StoreError}
+use Rattle.wasi_fs_nodes.specs.declared.store_error.StoreError.TheVariants as store
 use Rattle.wasi_fs_types.specs.declared.descriptor.DescriptorType.{DescriptorType}
 use Rattle.wasi_fs_types.specs.declared.descriptor.DescriptorType.TheVariants as type
 use Rattle.wasi_fs_nodes.specs.Nodes.{kind_at, names_at}
@@ -30,3 +33,9 @@ listed_unless None tree dir = (Ok (entries_told tree.nodes (names_at tree.nodes 
 -- THE LISTING: refused only by a planned fault
 abbrev pub listed : TreeState → Dir → Result (List DirectoryEntry) ErrorCode × TreeState
 listed tree dir = listed_unless tree.planned tree dir
+
+-- an entry of a name in bytes: refused with one code, exactly where they are no UTF-8
+abbrev pub IsMapped : List ℕ → DescriptorType → Result DirectoryEntry StoreError → Type 0
+IsMapped name type (Ok entry) = (entry ≡ record { type_ = type; name = name }) × IsUtf8 name
+IsMapped name type (Err (store.Code refusal)) = (refusal ≡ code.IllegalByteSequence) × (¬ (IsUtf8 name))
+IsMapped name type (Err store.OutOfMemory) = IsUtf8 name

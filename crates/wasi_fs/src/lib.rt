@@ -19,4 +19,5 @@ mod writable;
 
 pub use descriptor::{Descriptor, Dir, File};
 pub use entries::{DirectoryEntries, DirectoryEntry};
+pub use list::map_dir_entry;
 pub use tree::Tree;

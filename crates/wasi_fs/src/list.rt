@@ -1,6 +1,6 @@
 ghost use Rattle.std.specs.Prelude.{◌≡◌, IfOk};
 ghost use Rattle.wasi_fs_nodes.specs.Nodes.{kind_at, names_at};
-ghost use Rattle.wasi_fs.specs.Listing.{type_of_node, entries_told, listed};
+ghost use Rattle.wasi_fs.specs.Listing.{type_of_node, entries_told, listed, IsMapped};
 ghost use Rattle.wasi_fs.specs.Outcome.{Meets};
 ghost use Rattle.wasi_fs.specs.Trees.{IsDirOf};
 
@@ -10,7 +10,7 @@ use crate::look_ups::type_of;
 use crate::tree::Tree;
 use std::alloc::{AllocError, Global};
 use wasi_base::TrappableError;
-use wasi_fs_nodes::{Kind, Nodes};
+use wasi_fs_nodes::{Kind, Nodes, StoreError};
 use wasi_fs_types::{CwdText, DescriptorType, ErrorCode, FilesystemResult};
 
 /// The type of a node; each node that an entry names was made.
@@ -39,6 +39,30 @@ fn entries_of(nodes: &Nodes, alloc: Global, dir: u64) -> Result<Vec<DirectoryEnt
         })?;
     }
     Ok(entries)
+}
+
+/// The entry of a name in bytes.
+///
+/// # Errors
+///
+/// `Code(IllegalByteSequence)` exactly for a name that is not UTF-8, and no other code.
+pub fn map_dir_entry(
+    alloc: Global,
+    name: &[u8],
+    ty: DescriptorType,
+) -> Result<DirectoryEntry, StoreError>
+    ensures { IsMapped name.now ty result }
+{
+    let Ok(name) = str::from_utf8(name) else {
+        return Err(StoreError::Code(ErrorCode::IllegalByteSequence));
+    };
+    match String::from_str(alloc, name) {
+        Ok(name) => Ok(DirectoryEntry {
+            type_: ty,
+            name: CwdText::new(name),
+        }),
+        Err(_) => Err(StoreError::OutOfMemory),
+    }
 }
 
 impl Tree {

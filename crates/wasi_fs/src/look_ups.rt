@@ -1,4 +1,4 @@
-ghost use Rattle.std.specs.Prelude.{◌≡◌, ◌<◌, length, Ok, IfOk, option_map};
+ghost use Rattle.std.specs.Prelude.{◌≡◌, ◌<◌, length, cond, Ok, IfOk, option_map};
 ghost use Rattle.std.specs.Option.{ok_or};
 ghost use Rattle.wasi_fs.specs.Flags.{flags_of_mode, flags_of_perms};
 ghost use Rattle.wasi_fs.specs.LookUps.{found_at, advised, flags_in, type_in, type_of, stat_told, stat_of, stat_found, link_read, is_same, hash_of, hash_found};
@@ -18,21 +18,24 @@ use wasi_fs_types::{
     FsPerms, MetadataHashValue, OpenMode, PathFlags,
 };
 
+/// These flags where they are asked for, else none.
+fn flags_if(asked: bool, flags: DescriptorFlags) -> DescriptorFlags
+    ensures { result.0 ≡ cond asked flags.0 0 }
+{
+    if asked {
+        flags
+    } else {
+        DescriptorFlags::empty()
+    }
+}
+
 /// The flags of a file that is open.
 fn flags_of_mode(mode: OpenMode) -> DescriptorFlags
     ensures { result ≡ flags_of_mode mode }
 {
-    let read = if mode.contains(OpenMode::READ) {
-        DescriptorFlags::READ
-    } else {
-        DescriptorFlags::empty()
-    };
-    let write = if mode.contains(OpenMode::WRITE) {
-        DescriptorFlags::WRITE
-    } else {
-        DescriptorFlags::empty()
-    };
-    read | write
+    let read = flags_if(mode.contains(OpenMode::READ), DescriptorFlags::READ);
+    let write = flags_if(mode.contains(OpenMode::WRITE), DescriptorFlags::WRITE);
+    read.union(write)
 }
 
 /// The flags of a directory that is open.
@@ -41,7 +44,7 @@ fn flags_of_perms(perms: FsPerms) -> DescriptorFlags
 {
     match perms {
         FsPerms::ReadOnly => DescriptorFlags::READ,
-        FsPerms::ReadWrite => DescriptorFlags::READ | DescriptorFlags::MUTATE_DIRECTORY,
+        FsPerms::ReadWrite => DescriptorFlags::READ.union(DescriptorFlags::MUTATE_DIRECTORY),
     }
 }
 

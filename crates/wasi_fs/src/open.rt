@@ -1,11 +1,11 @@
-ghost use Rattle.std.specs.Prelude.{◌≡◌, Some, IfOk};
+ghost use Rattle.std.specs.Prelude.{◌≡◌, cond, Some, IfOk};
 ghost use Rattle.wasi_fs_nodes.specs.Nodes.{kind_at};
 ghost use Rattle.wasi_fs_nodes.specs.declared.node.Kind.TheVariants as kind;
 ghost use Rattle.wasi_fs_paths.specs.Places.{IsPlace, place_of};
 ghost use Rattle.wasi_fs.specs.Flags.{mode_for};
 ghost use Rattle.wasi_fs.specs.Opening.{asks_to_change, wants_new, well_asked, file_opened, directory_opened, directory_opened_or_refused, emptied_if, opened_kind, opened_node, opened_at, opened_from, opened};
 ghost use Rattle.wasi_fs.specs.Outcome.{Gives, GivesIn};
-ghost use Rattle.wasi_fs.specs.Trees.{IsOf, KeepsDescriptors};
+ghost use Rattle.wasi_fs.specs.Trees.{IsOf, IsDirOf, KeepsDescriptors};
 
 use crate::descriptor::{Descriptor, Dir, File};
 use crate::opening::Opening;
@@ -21,23 +21,20 @@ use wasi_fs_types::{
     DescriptorFlags, ErrorCode, FilesystemResult, FsPerms, OpenFlags, OpenMode, PathFlags,
 };
 
+/// This mode where it is asked for, else none.
+fn mode_if(asked: bool, mode: OpenMode) -> OpenMode
+    ensures { result.0 ≡ cond asked mode.0 0 }
+{
+    if asked { mode } else { OpenMode::empty() }
+}
+
 /// What a descriptor gives and takes that is opened with these flags.
 fn mode_for(flags: DescriptorFlags) -> OpenMode
     ensures { result ≡ mode_for flags }
 {
     let write = flags.contains(DescriptorFlags::WRITE);
     let read = flags.contains(DescriptorFlags::READ) || !write;
-    let read = if read {
-        OpenMode::READ
-    } else {
-        OpenMode::empty()
-    };
-    let write = if write {
-        OpenMode::WRITE
-    } else {
-        OpenMode::empty()
-    };
-    read | write
+    mode_if(read, OpenMode::READ).union(mode_if(write, OpenMode::WRITE))
 }
 
 impl Opening {
@@ -256,16 +253,30 @@ impl Tree {
         requires { IsOf self.old at.now }
         ensures { Gives self.old self.new result (opened self.old.nodes at.now path_flags path.now how flags now blocking) }
     {
-        let from = match self.directory(at) {
-            Ok(dir) => dir,
-            Err(code) => return Err(TrappableError::Normal(code)),
-        };
-        let opening = Opening {
-            from,
-            how,
-            flags,
-            blocking,
-        };
+        match self.directory(at) {
+            Ok(from) => {
+                let opening = Opening {
+                    from,
+                    how,
+                    flags,
+                    blocking,
+                };
+                self.open_from(opening, path_flags, path, now)
+            }
+            Err(code) => Err(TrappableError::Normal(code)),
+        }
+    }
+
+    fn open_from(
+        &mut self,
+        opening: Opening,
+        path_flags: PathFlags,
+        path: &str,
+        now: WallTime,
+    ) -> FilesystemResult<Descriptor>
+        requires { IsDirOf self.old opening.from }
+        ensures { Gives self.old self.new result (opened_from self.old.nodes opening path_flags path.now now) }
+    {
         from_store(open_path(&mut self.nodes, opening, path_flags, path, now))
     }
 }

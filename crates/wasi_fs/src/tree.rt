@@ -5,6 +5,7 @@ ghost use Rattle.wasi_fs.specs.Trees.{IsDirOf, after_fault};
 
 use crate::descriptor::Dir;
 use crate::times::time_of;
+use bitflags::Flags;
 use std::alloc::Global;
 use std::marker::Model;
 use wasi_base::{IoKind, OutOfMemory};
@@ -71,7 +72,7 @@ impl Tree {
             tree: self.number(),
             node: self.nodes().root(),
             perms: FsPerms::ReadWrite,
-            mode: OpenMode::READ | OpenMode::WRITE,
+            mode: OpenMode::READ.union(OpenMode::WRITE),
             blocking: false,
         }
     }
