@@ -1,0 +1,4 @@
+mod OutcomeFacts
+mod KeptFacts
+mod ListFacts
+pub mod ChangeFacts

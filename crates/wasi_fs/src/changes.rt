@@ -1,0 +1,7 @@
+mod directories;
+mod flags;
+mod links;
+mod made;
+mod names;
+mod sizes;
+mod times;

@@ -1,0 +1,10 @@
+pub mod EntryFacts
+pub mod WriteFacts
+pub mod RowFacts
+pub mod NodeFacts
+pub mod ShapeFacts
+pub mod SumFacts
+pub mod CountFacts
+pub mod MoveFacts
+pub mod ListFacts
+pub mod KindFacts

@@ -1,0 +1,10 @@
+use Rattle.std.proofs.Common.{refl}
+use Rattle.wasi_fs_nodes.specs.Bodies.{body_with_parent}
+use Rattle.wasi_fs_nodes.proofs.RowFacts.{rows_changed, links_kept}
+use Rattle.wasi_fs_nodes.proofs.rows.set_parent.Goals as goal
+
+pub returns-clause-nodes : goal.returns-clause-nodes
+returns-clause-nodes c = rows_changed (body_with_parent c.args.dir) c.args.rows.now.items c.args.node c.index_mut.result.now _ c.index_mut.ensures.value c.set_parent.ensures
+
+pub returns-clause-links : goal.returns-clause-links
+returns-clause-links c = links_kept c.args.rows.now.items c.args.node c.index_mut.result.now _ c.index_mut.ensures.value refl

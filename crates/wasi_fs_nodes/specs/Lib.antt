@@ -1,0 +1,10 @@
+pub mod StoreError
+pub mod Outcome
+pub mod Content
+pub mod Names
+pub mod Nodes
+pub mod Bodies
+pub mod Shape
+pub mod Changes
+pub mod Stats
+pub mod Counts

@@ -1,0 +1,29 @@
+//! The nodes of a tree of files in memory: files, directories and links by number, and every
+//! change of them, with its limits and refusals. No paths: a call takes a directory's number and a
+//! name.
+#![tactic(auto)]
+
+mod at;
+mod changes;
+mod content;
+mod edits;
+mod laws;
+mod names;
+mod node;
+mod nodes;
+mod rows;
+mod stats;
+mod store_error;
+#[cfg(test)]
+mod tests;
+mod text;
+
+pub use at::At;
+pub use content::Content;
+pub use laws::kinds_stay;
+pub use names::Names;
+pub use node::{Body, Kind, Node, Times};
+pub use nodes::Nodes;
+pub use stats::{Entry, Stat};
+pub use store_error::StoreError;
+pub use text::Text;

@@ -1,0 +1,3 @@
+mod PartFacts
+mod PlaceFacts
+mod TrailFacts

@@ -1,0 +1,4 @@
+pub mod ErrorCode
+pub mod Flags
+pub mod Names
+pub mod Records
