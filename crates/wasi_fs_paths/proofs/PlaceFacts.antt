@@ -1,10 +1,10 @@
-use Rattle.std.proofs.Common.{◌≡◌, ℕ, zero, suc, ◌<◌, ◌≤◌, List, [], ◌∷◌, length, slice_get, Option, Some, None, Result, Ok, Err, IfOk, Bool, true, false, cond, ltb, not, refl, ap, sym, ◌∙◌, subst, arith}
+use Rattle.std.proofs.Common.{◌≡◌, ℕ, zero, suc, ◌<◌, ◌≤◌, List, [], ◌∷◌, length, slice_get, Option, Some, None, Result, Ok, Err, IfOk, Bool, true, false, cond, ltb, not, refl, sym, arith}
 use Rattle.std.specs.Option.{ok_or}
 use Rattle.std.proofs.lemmas.Option.{slice_get_within}
 use Rattle.std.proofs.lemmas.Bool.Decides.{nat_tests}
 use Rattle.wasi_fs_types.specs.declared.error_code.ErrorCode.{ErrorCode}
 use Rattle.wasi_fs_types.specs.declared.error_code.ErrorCode.TheVariants as code
-use Rattle.wasi_fs_nodes.specs.Nodes.{body_of, kind_of_body, kind_at, entry_at, parent_at}
+use Rattle.wasi_fs_nodes.specs.Nodes.{body_of, kind_of_body, kind_at, entry_at}
 use Rattle.wasi_fs_nodes.specs.Outcome.{then, unless}
 use Rattle.wasi_fs_nodes.specs.Shape.{IsRooted, NamesNodes}
 use Rattle.wasi_fs_nodes.specs.declared.node.Node.{Node}
@@ -12,7 +12,7 @@ use Rattle.wasi_fs_nodes.specs.declared.node.Kind.{Kind}
 use Rattle.wasi_fs_nodes.specs.declared.node.Kind.TheVariants as kind
 use Rattle.wasi_fs_paths.specs.Components.{components, is_parent, is_empty, begins_with_slash, ends_with_slash}
 use Rattle.wasi_fs_paths.specs.Paths.{Place, Inside, Named, walk, last, past, back, into, into_kind, inside, settled, settled_kind, resolved, node_of}
-use Rattle.wasi_fs_paths.specs.Places.{IsPlace, IsNamed, place_of, place_result}
+use Rattle.wasi_fs_paths.specs.Places.{IsPlace, place_of, place_result}
 use Rattle.wasi_fs_paths.specs.declared.place.Place.{Place as Lent}
 use Rattle.wasi_fs_paths.specs.declared.place.Wish.{Wish}
 use Rattle.wasi_fs_paths.specs.declared.walk.Stand.{Stand}

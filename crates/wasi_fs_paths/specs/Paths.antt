@@ -1,6 +1,6 @@
 -- What a path leads to from a directory, or the code of its refusal. The path is walked from its front, and the first
 -- refusal met is the answer; at one name the rules count in the order in which they stand here.
-use Rattle.std.specs.Prelude.{ℕ, zero, suc, List, [], ◌∷◌, length, Option, Some, None, Result, Ok, Err, Bool, true, false, cond, not, ltb}
+use Rattle.std.specs.Prelude.{ℕ, zero, suc, List, [], ◌∷◌, length, Option, Some, None, Result, Ok, Err, Bool, false, cond, not, ltb}
 use Rattle.std.specs.Option.{ok_or}
 use Rattle.wasi_fs_types.specs.declared.error_code.ErrorCode.{ErrorCode}
 use Rattle.wasi_fs_types.specs.declared.error_code.ErrorCode.TheVariants as code

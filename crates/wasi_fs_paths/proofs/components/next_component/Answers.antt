@@ -1,5 +1,5 @@
-use Rattle.std.proofs.Common.{◌≡◌, ◌<◌, ◌≤◌, List, [], ◌∷◌, length, MatchOption, arith, rules, ap, sym, ◌∙◌}
-use Rattle.wasi_fs_paths.specs.Components.{parts, components, counts, IsNext}
+use Rattle.std.proofs.Common.{◌≡◌, ◌<◌, [], ◌∷◌, length, arith, rules, ◌∙◌}
+use Rattle.wasi_fs_paths.specs.Components.{parts}
 use Rattle.wasi_fs_paths.proofs.PartFacts.{first_part, next_here, next_skip, next_last, next_none}
 use Rattle.wasi_fs_paths.proofs.components.next_component.Goals as goal
 

@@ -1,4 +1,4 @@
-use Rattle.std.proofs.Common.{◌≡◌, ◌<◌, ℕ, length, Result, Ok, IfOk, ap, sym, ◌∙◌, subst}
+use Rattle.std.proofs.Common.{◌<◌, ℕ, length, Result, IfOk, ap, sym, ◌∙◌, subst}
 use Rattle.std.specs.Option.{ok_or}
 use Rattle.wasi_fs_types.specs.declared.error_code.ErrorCode.{ErrorCode}
 use Rattle.wasi_fs_types.specs.declared.error_code.ErrorCode.TheVariants as code
