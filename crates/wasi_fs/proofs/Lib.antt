@@ -2,3 +2,4 @@ mod OutcomeFacts
 mod KeptFacts
 mod ListFacts
 pub mod ChangeFacts
+pub mod StayFacts

@@ -5,6 +5,7 @@ mod add;
 mod changes;
 mod descriptor;
 mod entries;
+mod laws;
 mod list;
 mod look_ups;
 mod making;
@@ -19,5 +20,6 @@ mod writable;
 
 pub use descriptor::{Descriptor, Dir, File};
 pub use entries::{DirectoryEntries, DirectoryEntry};
+pub use laws::calls_keep_kinds;
 pub use list::map_dir_entry;
 pub use tree::Tree;

@@ -8,9 +8,9 @@ use bitflags::Flags;
 use std::alloc::Global;
 use std::process::Abort;
 use wasi_base::{IoKind, TrappableError};
-use wasi_clocks::{Datetime, WallTime};
+use wasi_clocks::{Datetime, Instant, WallTime};
 use wasi_fs_types::{
-    DescriptorFlags, DescriptorType, ErrorCode, FilesystemResult, FsPerms, OpenFlags, OpenMode,
+    DescriptorFlags, DescriptorType, ErrorCode, FilesystemResult, FsPerms, NewTimestamp, OpenFlags,
     PathFlags,
 };
 
@@ -240,4 +240,62 @@ fn names_are_listed_unless_a_fault_is_planned(rt: HostRuntime) {
     let refused = code_of(tree.list(&root));
     assert_eq!(rt; refused, Some(ErrorCode::Pipe));
     assert_eq!(rt; tree.faults(), 1);
+}
+
+/// The small tree, with a new directory `e` (4), in which the file stands as `g`.
+fn moved_tree(rt: &impl Abort, alloc: Global) -> Tree {
+    let mut tree = small_tree(rt, alloc);
+    let root = root_of(&tree);
+    let created = tree.create_directory_at(&root, "e", epoch()).is_ok();
+    let root = root_of(&tree);
+    let moved = tree.rename_at(&root, "d/f", &root, "e/g").is_ok();
+    assert!(rt; created && moved);
+    tree
+}
+
+#[test]
+fn a_directory_that_is_there_is_not_made(rt: HostRuntime) {
+    let mut tree = moved_tree(&rt, rt.alloc());
+    let root = root_of(&tree);
+    let refused = code_of(tree.create_directory_at(&root, "e", epoch()));
+    assert_eq!(rt; refused, Some(ErrorCode::Exist));
+}
+
+#[test]
+fn a_directory_is_unlinked_by_no_call_for_files(rt: HostRuntime) {
+    let mut tree = moved_tree(&rt, rt.alloc());
+    let root = root_of(&tree);
+    let refused = code_of(tree.unlink_file_at(&root, "e"));
+    assert_eq!(rt; refused, Some(ErrorCode::IsDirectory));
+}
+
+#[test]
+fn a_full_directory_is_not_removed(rt: HostRuntime) {
+    let mut tree = moved_tree(&rt, rt.alloc());
+    let root = root_of(&tree);
+    let refused = code_of(tree.remove_directory_at(&root, "e"));
+    assert_eq!(rt; refused, Some(ErrorCode::NotEmpty));
+    let root = root_of(&tree);
+    assert!(rt; tree.remove_directory_at(&root, "d").is_ok());
+}
+
+#[test]
+fn a_name_that_was_moved_is_absent(rt: HostRuntime) {
+    let tree = moved_tree(&rt, rt.alloc());
+    let root = root_of(&tree);
+    let refused = code_of(tree.stat_at(&root, PathFlags::empty(), "d/f"));
+    assert_eq!(rt; refused, Some(ErrorCode::NoEntry));
+}
+
+#[test]
+fn a_time_that_does_not_fit(rt: HostRuntime) {
+    let mut tree = moved_tree(&rt, rt.alloc());
+    let root = root_of(&tree);
+    let late = NewTimestamp::Timestamp(Instant {
+        seconds: i64::MAX,
+        nanoseconds: 1_000_000_000,
+    });
+    let keep = NewTimestamp::NoChange;
+    let refused = code_of(tree.set_times_at(&root, PathFlags::empty(), "e", late, keep, epoch()));
+    assert_eq!(rt; refused, Some(ErrorCode::Overflow));
 }

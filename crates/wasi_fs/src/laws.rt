@@ -1,0 +1,26 @@
+ghost use Rattle.std.specs.Prelude.{ℕ, List, IfOk};
+ghost use Rattle.wasi_clocks.specs.declared.wall_times.WallTime.{WallTime};
+ghost use Rattle.wasi_fs_types.specs.declared.descriptor.NewTimestamp.{NewTimestamp};
+ghost use Rattle.wasi_fs_types.specs.declared.flags.PathFlags.{PathFlags};
+ghost use Rattle.wasi_fs_nodes.specs.Shape.{KindsStay};
+ghost use Rattle.wasi_fs_nodes.specs.declared.node.Node.{Node};
+ghost use Rattle.wasi_fs.specs.Calls.{size_set, times_set, times_set_at, directory_created, symlink_made, link_made, removed, file_unlinked, node_renamed};
+ghost use Rattle.wasi_fs.specs.declared.descriptor.Descriptor.{Descriptor};
+
+use wasi_fs_nodes::kinds_stay;
+
+/// A law: whatever the call that changes a tree, each node stays what it is, so that each
+/// descriptor of the tree stays one.
+pub fn calls_keep_kinds()
+    ensures size { (nodes : List Node) (at : Descriptor) (size : ℕ) → IfOk (size_set nodes at size) (KindsStay nodes) }
+    ensures times { (nodes : List Node) (at : Descriptor) (access modified : NewTimestamp) (now : WallTime) → IfOk (times_set nodes at access modified now) (KindsStay nodes) }
+    ensures times_at { (nodes : List Node) (at : Descriptor) (flags : PathFlags) (path : List ℕ) (access modified : NewTimestamp) (now : WallTime) → IfOk (times_set_at nodes at flags path access modified now) (KindsStay nodes) }
+    ensures directory { (nodes : List Node) (at : Descriptor) (path : List ℕ) (now : WallTime) → IfOk (directory_created nodes at path now) (KindsStay nodes) }
+    ensures symlink { (nodes : List Node) (at : Descriptor) (text path : List ℕ) (now : WallTime) → IfOk (symlink_made nodes at text path now) (KindsStay nodes) }
+    ensures link { (nodes : List Node) (at : Descriptor) (flags : PathFlags) (path : List ℕ) (to : Descriptor) (to_path : List ℕ) → IfOk (link_made nodes at flags path to to_path) (KindsStay nodes) }
+    ensures remove { (nodes : List Node) (at : Descriptor) (path : List ℕ) → IfOk (removed nodes at path) (KindsStay nodes) }
+    ensures unlink { (nodes : List Node) (at : Descriptor) (path : List ℕ) → IfOk (file_unlinked nodes at path) (KindsStay nodes) }
+    ensures rename { (nodes : List Node) (at : Descriptor) (path : List ℕ) (to : Descriptor) (to_path : List ℕ) → IfOk (node_renamed nodes at path to to_path) (KindsStay nodes) }
+{
+    kinds_stay();
+}
