@@ -11,7 +11,7 @@ use Rattle.wasi_fs_types.specs.declared.flags.OpenFlags.{OpenFlags}
 use Rattle.wasi_fs_types.specs.declared.flags.PathFlags.{PathFlags}
 use Rattle.wasi_fs_nodes.specs.Bodies.{with_body, body_with_name, with_name, with_new, with_size}
 use Rattle.wasi_fs_nodes.specs.Changes.{made, may_make, new_file}
-use Rattle.wasi_fs_nodes.specs.Nodes.{kind_of, kind_at, bytes_in}
+use Rattle.wasi_fs_nodes.specs.Nodes.{kind_of, kind_at}
 use Rattle.wasi_fs_nodes.specs.Outcome.{then, unless}
 use Rattle.wasi_fs_nodes.specs.Shape.{KindsStay}
 use Rattle.wasi_fs_nodes.specs.declared.node.Node.{Node}
@@ -20,13 +20,12 @@ use Rattle.wasi_fs_nodes.specs.declared.node.Kind.{Kind}
 use Rattle.wasi_fs_nodes.specs.declared.node.Kind.TheVariants as kind
 use Rattle.wasi_fs_paths.specs.Components.{ends_with_slash}
 use Rattle.wasi_fs_paths.specs.Paths.{Place, Inside, Named, resolved}
-use Rattle.wasi_fs_paths.specs.declared.place.Wish.{Wish}
 use Rattle.wasi_fs.specs.Calls.{added_at, added, there_or_new}
 use Rattle.wasi_fs.specs.Flags.{follows, creates, wants_directory, truncates, wants_write}
-use Rattle.wasi_fs.specs.Opening.{wants_new, well_asked, file_opened, directory_opened, directory_opened_or_refused, emptied_if, opened_kind, opened_node, opened_at, opened_from, opened}
+use Rattle.wasi_fs.specs.Opening.{wants_new, well_asked, directory_opened_or_refused, emptied_if, opened_kind, opened_at, opened}
 use Rattle.wasi_fs.specs.Outcome.{Leaves, Gives}
 use Rattle.wasi_fs.specs.Times.{time_of}
-use Rattle.wasi_fs.specs.Trees.{TreeState, with_nodes, IsOf, IsDirOf, IsFileOf, KeepsDescriptors}
+use Rattle.wasi_fs.specs.Trees.{TreeState, with_nodes, IsOf, KeepsDescriptors}
 use Rattle.wasi_fs.specs.declared.descriptor.Descriptor.{Descriptor}
 use Rattle.wasi_fs.specs.declared.descriptor.Descriptor.TheVariants as descriptor
 use Rattle.wasi_fs.specs.declared.opening.Opening.{Opening}

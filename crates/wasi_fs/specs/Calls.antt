@@ -17,7 +17,7 @@ use Rattle.wasi_fs_paths.specs.Paths.{Place, Inside, Named, resolved, found}
 use Rattle.wasi_fs_paths.specs.declared.place.Wish.{Wish}
 use Rattle.wasi_fs.specs.Flags.{follows, may_write, is_read_only}
 use Rattle.wasi_fs.specs.Times.{time_of, new_time}
-use Rattle.wasi_fs.specs.Trees.{tree_in, node_in, perms_in, as_file, as_directory, as_writable_directory}
+use Rattle.wasi_fs.specs.Trees.{node_in, perms_in, as_file, as_directory, as_writable_directory}
 use Rattle.wasi_fs.specs.declared.descriptor.Descriptor.{Descriptor}
 use Rattle.wasi_fs.specs.declared.descriptor.Dir.{Dir}
 

@@ -1,5 +1,5 @@
 -- What flags and a mode ask for.
-use Rattle.std.specs.Prelude.{ℕ, Bool, not, ◌&&◌, ◌||◌, ◌==◌, cond}
+use Rattle.std.specs.Prelude.{ℕ, Bool, not, ◌||◌, ◌==◌, cond}
 use Rattle.std.specs.Int.RustNames.{bit_and, bit_or}
 use Rattle.wasi_fs_types.specs.declared.descriptor.FsPerms.{FsPerms}
 use Rattle.wasi_fs_types.specs.declared.descriptor.FsPerms.TheVariants as perms

@@ -1,5 +1,5 @@
 -- What the calls answer that change nothing, each with its refusals in their order.
-use Rattle.std.specs.Prelude.{ℕ, List, Option, Result, Ok, Err, Bool, false, ◌&&◌, eqb, option_map}
+use Rattle.std.specs.Prelude.{ℕ, List, Result, Ok, Bool, false, ◌&&◌, eqb, option_map}
 use Rattle.std.specs.Option.{ok_or}
 use Rattle.wasi_fs_types.specs.declared.error_code.ErrorCode.{ErrorCode}
 use Rattle.wasi_fs_types.specs.declared.error_code.ErrorCode.TheVariants as code

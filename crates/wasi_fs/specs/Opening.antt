@@ -16,7 +16,6 @@ use Rattle.wasi_fs_nodes.specs.declared.node.Kind.{Kind}
 use Rattle.wasi_fs_nodes.specs.declared.node.Kind.TheVariants as kind
 use Rattle.wasi_fs_paths.specs.Components.{ends_with_slash}
 use Rattle.wasi_fs_paths.specs.Paths.{Place, Inside, Named, resolved}
-use Rattle.wasi_fs_paths.specs.declared.place.Wish.{Wish}
 use Rattle.wasi_fs.specs.Flags.{follows, creates, wants_directory, is_exclusive, truncates, wants_write, wants_sync, wants_to_mutate, mode_for, is_read_only}
 use Rattle.wasi_fs.specs.Times.{time_of}
 use Rattle.wasi_fs.specs.Trees.{as_directory}

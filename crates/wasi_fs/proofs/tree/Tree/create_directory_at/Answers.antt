@@ -1,13 +1,13 @@
 use Rattle.std.proofs.Common.{Option, sym, subst}
 use Rattle.wasi_clocks.specs.declared.datetimes.Datetime.{Datetime}
 use Rattle.wasi_fs_nodes.specs.Changes.{new_directory}
-use Rattle.wasi_fs_nodes.specs.Outcome.{then, unless}
+use Rattle.wasi_fs_nodes.specs.Outcome.{then}
 use Rattle.wasi_fs_paths.specs.Paths.{resolved}
 use Rattle.wasi_fs.specs.Calls.{there_or_new, made_at}
 use Rattle.wasi_fs.specs.Outcome.{Leaves}
 use Rattle.wasi_fs.specs.Times.{time_of}
 use Rattle.wasi_fs.specs.Trees.{as_writable_directory}
-use Rattle.wasi_fs.proofs.ChangeFacts.{then_known, unless_not}
+use Rattle.wasi_fs.proofs.ChangeFacts.{then_known}
 use Rattle.wasi_fs.proofs.tree.Tree.create_directory_at.Goals as goal
 
 pub returns : goal.returns
