@@ -239,7 +239,7 @@ fn filled(nodes: &mut Nodes, names: &[u8]) -> u64 {
         if set_size(nodes, file, 1_048_576).is_err() {
             return files;
         }
-        files += 1;
+        files = u64::saturating_add(files, 1);
     }
     files
 }
