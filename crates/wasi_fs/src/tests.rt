@@ -3,6 +3,8 @@
 
 ghost use Rattle.wasi_fs.specs.Trees.{IsOf};
 
+mod refusals;
+
 use crate::{Descriptor, Tree};
 use bitflags::Flags;
 use std::alloc::Global;

@@ -6,9 +6,10 @@ ghost use Rattle.wasi_fs_paths.specs.Paths.{resolved};
 ghost use Rattle.wasi_fs_paths.specs.Places.{place_of};
 ghost use Rattle.wasi_fs.specs.Calls.{there, directory_created, directory_removed_at, removed};
 ghost use Rattle.wasi_fs.specs.Outcome.{Leaves};
-ghost use Rattle.wasi_fs.specs.Trees.{IsOf};
+ghost use Rattle.wasi_fs.specs.Trees.{IsOf, KeepsDescriptors};
 
 use crate::descriptor::Descriptor;
+use crate::laws::calls_keep_kinds;
 use crate::making::{New, THERE};
 use crate::outcome::from_store;
 use crate::times::time_of;
@@ -57,6 +58,15 @@ impl Tree {
         now: WallTime,
     ) -> FilesystemResult<()>
         requires { IsOf self.old at.now }
+        ensures leaves { Leaves self.old self.new result (directory_created self.old.nodes at.now path.now now) }
+        ensures kept { KeepsDescriptors self.old self.new }
+    {
+        calls_keep_kinds();
+        self.make_directory(at, path, now)
+    }
+
+    fn make_directory(&mut self, at: &Descriptor, path: &str, now: WallTime) -> FilesystemResult<()>
+        requires { IsOf self.old at.now }
         ensures { Leaves self.old self.new result (directory_created self.old.nodes at.now path.now now) }
     {
         let dir = match self.writable_directory(at) {
@@ -74,6 +84,15 @@ impl Tree {
     /// `Invalid` where the path has no last name; `NotDirectory` where it names no directory;
     /// `NotEmpty` where entries are left.
     pub fn remove_directory_at(&mut self, at: &Descriptor, path: &str) -> FilesystemResult<()>
+        requires { IsOf self.old at.now }
+        ensures leaves { Leaves self.old self.new result (removed self.old.nodes at.now path.now) }
+        ensures kept { KeepsDescriptors self.old self.new }
+    {
+        calls_keep_kinds();
+        self.take_directory(at, path)
+    }
+
+    fn take_directory(&mut self, at: &Descriptor, path: &str) -> FilesystemResult<()>
         requires { IsOf self.old at.now }
         ensures { Leaves self.old self.new result (removed self.old.nodes at.now path.now) }
     {

@@ -7,10 +7,11 @@ ghost use Rattle.wasi_fs_paths.specs.Paths.{resolved, found};
 ghost use Rattle.wasi_fs_paths.specs.Places.{place_of, IsPlace};
 ghost use Rattle.wasi_fs.specs.Calls.{there_or_new, symlink_made, linked_at, link_made};
 ghost use Rattle.wasi_fs.specs.Outcome.{Leaves};
-ghost use Rattle.wasi_fs.specs.Trees.{IsOf, IsOfIfHere};
+ghost use Rattle.wasi_fs.specs.Trees.{IsOf, IsOfIfHere, KeepsDescriptors};
 
 use crate::changes::flags::follows;
 use crate::descriptor::Descriptor;
+use crate::laws::calls_keep_kinds;
 use crate::making::{New, THERE_OR_NEW};
 use crate::outcome::from_store;
 use crate::times::time_of;
@@ -76,6 +77,21 @@ impl Tree {
         now: WallTime,
     ) -> FilesystemResult<()>
         requires { IsOf self.old at.now }
+        ensures leaves { Leaves self.old self.new result (symlink_made self.old.nodes at.now text.now path.now now) }
+        ensures kept { KeepsDescriptors self.old self.new }
+    {
+        calls_keep_kinds();
+        self.make_symlink(at, text, path, now)
+    }
+
+    fn make_symlink(
+        &mut self,
+        at: &Descriptor,
+        text: &str,
+        path: &str,
+        now: WallTime,
+    ) -> FilesystemResult<()>
+        requires { IsOf self.old at.now }
         ensures { Leaves self.old self.new result (symlink_made self.old.nodes at.now text.now path.now now) }
     {
         let dir = match self.writable_directory(at) {
@@ -97,6 +113,23 @@ impl Tree {
     /// second path's; `NotPermitted` for a directory; `Exist` where the second path's last name is
     /// there, or it has none; `NoEntry` in a removed directory.
     pub fn link_at(
+        &mut self,
+        at: &Descriptor,
+        flags: PathFlags,
+        path: &str,
+        to: &Descriptor,
+        to_path: &str,
+    ) -> FilesystemResult<()>
+        requires at { IsOf self.old at.now }
+        requires to { IsOfIfHere self.old to.now }
+        ensures leaves { Leaves self.old self.new result (link_made self.old.nodes at.now flags path.now to.now to_path.now) }
+        ensures kept { KeepsDescriptors self.old self.new }
+    {
+        calls_keep_kinds();
+        self.add_name(at, flags, path, to, to_path)
+    }
+
+    fn add_name(
         &mut self,
         at: &Descriptor,
         flags: PathFlags,

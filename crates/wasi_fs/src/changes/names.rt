@@ -6,9 +6,10 @@ ghost use Rattle.wasi_fs_paths.specs.Paths.{resolved};
 ghost use Rattle.wasi_fs_paths.specs.Places.{place_of, IsPlace};
 ghost use Rattle.wasi_fs.specs.Calls.{there, there_or_new, file_unlinked, file_unlinked_at, renamed_at, node_renamed};
 ghost use Rattle.wasi_fs.specs.Outcome.{Leaves};
-ghost use Rattle.wasi_fs.specs.Trees.{IsOf, IsOfIfHere};
+ghost use Rattle.wasi_fs.specs.Trees.{IsOf, IsOfIfHere, KeepsDescriptors};
 
 use crate::descriptor::Descriptor;
+use crate::laws::calls_keep_kinds;
 use crate::making::{THERE, THERE_OR_NEW};
 use crate::outcome::from_store;
 use crate::tree::Tree;
@@ -84,6 +85,15 @@ impl Tree {
     /// `IsDirectory` for a directory.
     pub fn unlink_file_at(&mut self, at: &Descriptor, path: &str) -> FilesystemResult<()>
         requires { IsOf self.old at.now }
+        ensures leaves { Leaves self.old self.new result (file_unlinked self.old.nodes at.now path.now) }
+        ensures kept { KeepsDescriptors self.old self.new }
+    {
+        calls_keep_kinds();
+        self.take_name(at, path)
+    }
+
+    fn take_name(&mut self, at: &Descriptor, path: &str) -> FilesystemResult<()>
+        requires { IsOf self.old at.now }
         ensures { Leaves self.old self.new result (file_unlinked self.old.nodes at.now path.now) }
     {
         let dir = match self.writable_directory(at) {
@@ -105,6 +115,22 @@ impl Tree {
     /// `NotDirectory` where a directory would take the place of a file or a link; `NoEntry` in a
     /// removed directory.
     pub fn rename_at(
+        &mut self,
+        at: &Descriptor,
+        path: &str,
+        to: &Descriptor,
+        to_path: &str,
+    ) -> FilesystemResult<()>
+        requires at { IsOf self.old at.now }
+        requires to { IsOfIfHere self.old to.now }
+        ensures leaves { Leaves self.old self.new result (node_renamed self.old.nodes at.now path.now to.now to_path.now) }
+        ensures kept { KeepsDescriptors self.old self.new }
+    {
+        calls_keep_kinds();
+        self.move_name(at, path, to, to_path)
+    }
+
+    fn move_name(
         &mut self,
         at: &Descriptor,
         path: &str,

@@ -6,10 +6,11 @@ ghost use Rattle.wasi_fs_nodes.specs.declared.node.Kind.TheVariants.{Directory};
 ghost use Rattle.wasi_fs_paths.specs.Paths.{found};
 ghost use Rattle.wasi_fs.specs.Calls.{times_for, times_set, times_set_at};
 ghost use Rattle.wasi_fs.specs.Outcome.{Leaves};
-ghost use Rattle.wasi_fs.specs.Trees.{IsOf};
+ghost use Rattle.wasi_fs.specs.Trees.{IsOf, KeepsDescriptors};
 
 use crate::changes::flags::follows;
 use crate::descriptor::Descriptor;
+use crate::laws::calls_keep_kinds;
 use crate::outcome::from_store;
 use crate::times::new_time;
 use crate::tree::Tree;
@@ -70,6 +71,21 @@ impl Tree {
         now: WallTime,
     ) -> FilesystemResult<()>
         requires { IsOf self.old at.now }
+        ensures leaves { Leaves self.old self.new result (times_set self.old.nodes at.now access modified now) }
+        ensures kept { KeepsDescriptors self.old self.new }
+    {
+        calls_keep_kinds();
+        self.retime(at, access, modified, now)
+    }
+
+    fn retime(
+        &mut self,
+        at: &Descriptor,
+        access: NewTimestamp,
+        modified: NewTimestamp,
+        now: WallTime,
+    ) -> FilesystemResult<()>
+        requires { IsOf self.old at.now }
         ensures { Leaves self.old self.new result (times_set self.old.nodes at.now access modified now) }
     {
         let (access, modified) = match times_for(access, modified, now) {
@@ -90,6 +106,23 @@ impl Tree {
     /// `Overflow` where a time does not fit; `NotDirectory` for a file; `NotPermitted` where the
     /// perms are to read only; then the path's.
     pub fn set_times_at(
+        &mut self,
+        at: &Descriptor,
+        flags: PathFlags,
+        path: &str,
+        access: NewTimestamp,
+        modified: NewTimestamp,
+        now: WallTime,
+    ) -> FilesystemResult<()>
+        requires { IsOf self.old at.now }
+        ensures leaves { Leaves self.old self.new result (times_set_at self.old.nodes at.now flags path.now access modified now) }
+        ensures kept { KeepsDescriptors self.old self.new }
+    {
+        calls_keep_kinds();
+        self.retime_at(at, flags, path, access, modified, now)
+    }
+
+    fn retime_at(
         &mut self,
         at: &Descriptor,
         flags: PathFlags,

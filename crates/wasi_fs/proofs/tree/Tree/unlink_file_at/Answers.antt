@@ -1,12 +1,8 @@
-use Rattle.std.proofs.Common.{sym}
-use Rattle.wasi_fs_nodes.specs.Outcome.{then}
-use Rattle.wasi_fs_paths.specs.Paths.{resolved}
-use Rattle.wasi_fs.specs.Calls.{there, file_unlinked_at}
-use Rattle.wasi_fs.specs.Trees.{as_writable_directory}
-use Rattle.wasi_fs.proofs.ChangeFacts.{told_tree, then_known}
+use Rattle.wasi_fs.specs.Calls.{file_unlinked}
+use Rattle.wasi_fs.proofs.KeptFacts.{left_kept}
 use Rattle.wasi_fs.proofs.tree.Tree.unlink_file_at.Goals as goal
 
-pub returns : goal.returns
-returns c =
-    then_known c.args.self.now _ c.from_store.result (as_writable_directory c.args.at.now) c.in-Ok.dir (λ dir. then (resolved c.args.self.now.nodes dir.node there c.args.path.now) (file_unlinked_at c.args.self.now.nodes)) (sym c.in-Ok.ensures.is)
-    (told_tree _ _ c.self.view_is c.unlink.new.nodes c.unlink.result c.from_store.result c.from_store.ensures (λ nodes. then (resolved nodes c.in-Ok.dir.node there c.args.path.now) (file_unlinked_at nodes)) c.unlink.ensures)
+pub returns-clause-kept : goal.returns-clause-kept
+returns-clause-kept c =
+    left_kept c.args.self.now c.take_name.new.self c.take_name.result (file_unlinked c.args.self.now.nodes c.args.at.now c.args.path.now) c.take_name.ensures
+    (c.calls_keep_kinds.ensures.unlink c.args.self.now.nodes c.args.at.now c.args.path.now)
