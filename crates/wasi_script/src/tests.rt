@@ -1,3 +1,5 @@
+ghost use Rattle.std.specs.Prelude.{◌≡◌, length, IfOk};
+
 use crate::{ByteString, Call, ExitStatus, Input, Line, Name, Script, ScriptError, parse_script};
 use std::alloc::Global;
 use std::process::Abort;
@@ -10,7 +12,9 @@ fn parsed(rt: &impl Abort, alloc: Global, text: &str) -> Result<Script, ScriptEr
 }
 
 // The one step of a script of one step.
-fn only_step(rt: &impl Abort, alloc: Global, text: &str) -> Result<Script, ScriptError> {
+fn only_step(rt: &impl Abort, alloc: Global, text: &str) -> Result<Script, ScriptError>
+    ensures { IfOk result (λ script. length script ≡ 1) }
+{
     let script = parsed(rt, alloc, text)?;
     assert_eq!(rt; script.len(), 1, "{text}");
     Ok(script)
