@@ -4,8 +4,8 @@
 
 use bitflags::Flags;
 use std::alloc::Global;
-use std::process::ExitCode;
 use std::env;
+use std::process::ExitCode;
 use wasi_clocks::WallTime;
 use wasi_fs::{Descriptor, Tree};
 use wasi_fs_types::PathFlags;
@@ -48,7 +48,7 @@ fn found(alloc: Global, tree: &Tree, count: u32) -> u32 {
     for number in 0..count {
         if let Ok(name) = format!(in alloc; "file{number}") {
             if tree.stat_at(&root, PathFlags::empty(), &name).is_ok() {
-                found += 1;
+                found = u32::saturating_add(found, 1);
             }
         }
     }
