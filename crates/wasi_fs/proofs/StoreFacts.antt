@@ -1,5 +1,5 @@
 -- What a write to the nodes' file is to a tree as a store.
-use Rattle.std.proofs.Common.{◌≡◌, ◌≢◌, ℕ, zero, suc, ◌+◌, ◌-◌, ◌≤◌, List, [], ◌∷◌, length, Option, Some, None, Result, Ok, Err, IsOk, is_ok, Bool, true, false, cond, eqb, ltb, refl, ap, sym, subst, ◌∙◌, arith}
+use Rattle.std.proofs.Common.{◌≡◌, ◌≢◌, ℕ, zero, suc, ◌+◌, ◌-◌, ◌≤◌, List, [], ◌∷◌, length, Option, Some, None, Result, Ok, Err, IsOk, is_ok, IfOk, Bool, true, false, cond, eqb, ltb, refl, ap, sym, subst, ◌∙◌, arith}
 use Rattle.std.proofs.lemmas.Bool.{eqb-true, eqb-false}
 use Rattle.std.proofs.lemmas.Bool.Decides.{nat_tests}
 use Rattle.std.proofs.lemmas.List.{length-append, length-take, length-drop, length-replicate}
@@ -11,6 +11,7 @@ use Rattle.wasi_fs_nodes.specs.Changes.{wrote, wrote_from, place_of, has_no_room
 use Rattle.wasi_fs_nodes.specs.Content.{written, resized}
 use Rattle.wasi_fs_nodes.specs.Nodes.{kind_of, kind_at, bytes_in, bytes_at, total_bytes}
 use Rattle.wasi_fs_nodes.specs.Outcome.{unless, Leaves}
+use Rattle.wasi_fs_nodes.specs.Shape.{KindsStay}
 use Rattle.wasi_fs_nodes.specs.declared.at.At.{At}
 use Rattle.wasi_fs_nodes.specs.declared.at.At.TheVariants as at
 use Rattle.wasi_fs_nodes.specs.declared.node.Node.{Node}
@@ -19,7 +20,7 @@ use Rattle.wasi_fs_nodes.specs.declared.node.Body.TheVariants.{File, Directory, 
 use Rattle.wasi_fs_nodes.specs.declared.node.Kind.TheVariants as kinds
 use Rattle.wasi_fs_nodes.specs.declared.store_error.StoreError.{StoreError}
 use Rattle.wasi_fs_nodes.specs.declared.store_error.StoreError.TheVariants.{Code, OutOfMemory}
-use Rattle.wasi_fs.specs.Stores.{Told, Limits, Write, Fault, Refusal, Nothing, Bytes, fault_of, is_below, place_in, passed, bytes_unless, write_unless, written_from, write_of, taken, Took, after_write, unless_no_memory, bytes_after, told_after_write}
+use Rattle.wasi_fs.specs.Stores.{Told, Limits, Write, Fault, Refusal, Nothing, Bytes, fault_of, is_below, place_in, passed, bytes_unless, write_unless, written_from, write_of, taken, Took, after_write, unless_no_memory, counted, bytes_after, told_after_write}
 use Rattle.wasi_fs.specs.Trees.{TreeState, with_nodes, after_fault}
 use Rattle.wasi_fs.specs.TreeStore.{tree_told, HasFile, body_with_bytes, with_file}
 
@@ -41,7 +42,7 @@ bytes_here now (x ∷ nodes) (suc i) h = bytes_here now nodes i h
 
 bytes_elsewhere : (g : Body → Body) (nodes : List Node) (f file : ℕ) → f ≢ file → bytes_at (with_body g nodes file) f ≡ bytes_at nodes f
 bytes_elsewhere g [] f file h = refl
-bytes_elsewhere g (x ∷ nodes) zero zero h = let k : ⊥ = h refl in cc
+bytes_elsewhere g (x ∷ nodes) zero zero h = absurd (h refl)
 bytes_elsewhere g (x ∷ nodes) zero (suc file) h = refl
 bytes_elsewhere g (x ∷ nodes) (suc f) zero h = refl
 bytes_elsewhere g (x ∷ nodes) (suc f) (suc file) h = bytes_elsewhere g nodes f file (λ e. h (ap suc e))
@@ -125,9 +126,11 @@ pub record IsWrite (old new : TreeState) (file count : ℕ) (write : Write) (res
   pub changes : (f : ℕ) → bytes_at new.nodes f ≡ unless_no_memory result (bytes_at old.nodes f) (cond (eqb f file) (bytes_after (bytes_at old.nodes file) write) (bytes_at old.nodes f))
   pub rest : new ≡ unless_no_memory result old (after_write after_fault (with_file old file) old write)
 
-pub counted : Result (Unit {0}) StoreError → ℕ → Result ℕ StoreError
-counted (Ok done) count = Ok count
-counted (Err refusal) count = Err refusal
+-- each node stays what it is
+pub files_stay : (old nodes : List Node) (r : Result (Unit {0}) StoreError) (outcome : Result (List Node) ErrorCode) → IfOk outcome (KindsStay old) → Leaves old nodes r outcome → KindsStay old nodes
+files_stay old nodes (Ok done) outcome k l = subst (λ o. IfOk o (KindsStay old)) l k
+files_stay old nodes (Err (Code c)) outcome k l = subst (KindsStay old) (sym l.1) (λ n kind e. e)
+files_stay old nodes (Err OutOfMemory) outcome k l = subst (KindsStay old) (sym l) (λ n kind e. e)
 
 told_of : TreeState → ℕ → Told
 told_of old total = record { least = 0; limits = Some (record { file = 1048576; all = 67108864; taken = total }); planned = old.planned; faults = old.faults }
@@ -135,15 +138,15 @@ told_of old total = record { least = 0; limits = Some (record { file = 1048576; 
 is_write_of : (old : TreeState) (nodes : List Node) (file count : ℕ) (write : Write) (outcome : Result (List Node) ErrorCode) (r : Result (Unit {0}) StoreError)
     → kind_at old.nodes file ≡ Some kinds.File → Agrees old file write outcome → Leaves old.nodes nodes r outcome → (r ≡ Err OutOfMemory → IsOk outcome)
     → IsWrite old (with_nodes old nodes) file count write (counted r count)
-is_write_of old nodes file count (Fault c) outcome r k a l m = cc
-is_write_of old nodes file count (Refusal c) outcome (Ok done) k a l m = cc
+is_write_of old nodes file count (Fault c) outcome r k a l m = absurd a
+is_write_of old nodes file count (Refusal c) outcome (Ok done) k a l m = absurd (cc)
 is_write_of old nodes file count (Refusal c) outcome (Err (Code d)) k a l m = record {
   takes = sym a ∙ l.0;
   tells = ap (λ ns. tree_told (with_nodes old ns)) l.1;
   changes = λ f. ap (λ ns. bytes_at ns f) l.1 ∙ sym (same_at (bytes_at old.nodes) f file);
   rest = ap (with_nodes old) l.1;
 }
-is_write_of old nodes file count (Refusal c) outcome (Err OutOfMemory) k a l m = let ok : is_ok outcome ≡ true = m refl in cc
+is_write_of old nodes file count (Refusal c) outcome (Err OutOfMemory) k a l m = let ok : is_ok outcome ≡ true = m refl in absurd (cc)
 is_write_of old nodes file count Nothing outcome (Ok done) k a l m =
     let same : nodes ≡ old.nodes = cc in
     record {
@@ -152,7 +155,7 @@ is_write_of old nodes file count Nothing outcome (Ok done) k a l m =
       changes = λ f. ap (λ ns. bytes_at ns f) same ∙ sym (same_at (bytes_at old.nodes) f file);
       rest = ap (with_nodes old) same;
     }
-is_write_of old nodes file count Nothing outcome (Err (Code d)) k a l m = let e : outcome ≡ Err d = l.0 in cc
+is_write_of old nodes file count Nothing outcome (Err (Code d)) k a l m = let e : outcome ≡ Err d = l.0 in absurd (cc)
 is_write_of old nodes file count Nothing outcome (Err OutOfMemory) k a l m = record {
   takes = refl;
   tells = ap (λ ns. tree_told (with_nodes old ns)) l;
@@ -170,7 +173,7 @@ is_write_of old nodes file count (Bytes now) outcome (Ok done) k a l m =
     }
 is_write_of old nodes file count (Bytes now) outcome (Err (Code d)) k a l m =
     let e : outcome ≡ Ok (with_body (body_with_bytes now) old.nodes file) = a.0 in
-    let f : outcome ≡ Err d = l.0 in cc
+    let f : outcome ≡ Err d = l.0 in absurd (cc)
 is_write_of old nodes file count (Bytes now) outcome (Err OutOfMemory) k a l m = record {
   takes = refl;
   tells = ap (λ ns. tree_told (with_nodes old ns)) l;

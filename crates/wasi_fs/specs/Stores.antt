@@ -114,6 +114,11 @@ Took (Ok count) outcome = outcome ≡ Ok count
 Took (Err (store.Code code)) outcome = outcome ≡ Err code
 Took (Err store.OutOfMemory) outcome = IsOk outcome
 
+-- a write that is done took all its bytes
+abbrev pub counted : Result (Unit {0}) StoreError → ℕ → Result ℕ StoreError
+counted (Ok done) count = Ok count
+counted (Err refusal) count = Err refusal
+
 -- what stands after a write, by what a fault and the file's new bytes leave ..
 abbrev pub after_write : {S : Type 0} → (S → S) → (List ℕ → S) → S → Write → S
 after_write after_fault with_bytes before (Fault code) = after_fault before

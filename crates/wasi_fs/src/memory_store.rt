@@ -111,7 +111,7 @@ impl Store for MemStore {
 
     ghost told = { one_file_told };
 
-    ghost IsFile = { λ store number. ⊤ };
+    ghost is_file = { λ store number. ⊤ };
 
     ghost contents = { λ store number. store.bytes };
 

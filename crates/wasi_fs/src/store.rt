@@ -1,9 +1,10 @@
 ghost use Rattle.std.specs.Prelude.{◌≡◌, ◌≤◌, ℕ, List, length, cond, eqb, Err, IsOk};
-ghost use Rattle.wasi_fs.specs.Stores.{Told, given, Gave, after_read, told_after_fault, write_of, taken, Took, after_write, unless_no_memory, bytes_after, told_after_write};
+ghost use Rattle.wasi_fs.specs.Stores.{Told, given, Gave, after_read, told_after_fault, write_of, taken, Took, after_write, unless_no_memory, counted, bytes_after, told_after_write};
 ghost use Rattle.wasi_fs.specs.Trees.{after_fault, with_nodes};
 ghost use Rattle.wasi_fs.specs.TreeStore.{tree_told, HasFile, bytes_of_file, with_file};
 ghost use Rattle.wasi_fs_nodes.specs.Changes.{wrote};
 ghost use Rattle.wasi_fs_nodes.specs.Outcome.{Leaves};
+ghost use Rattle.wasi_fs_nodes.specs.Shape.{KindsStay};
 ghost use Rattle.wasi_fs_nodes.specs.declared.store_error.StoreError.TheVariants.{OutOfMemory};
 
 use crate::tree::Tree;
@@ -21,7 +22,7 @@ pub trait Store {
     ghost told: { Self → Told };
 
     /// Which numbers are files of it.
-    ghost IsFile: { Self → ℕ → Type 0 };
+    ghost is_file: { Self → ℕ → Type 0 };
 
     /// The bytes of the file that a number names.
     ghost contents: { Self → ℕ → List ℕ };
@@ -42,12 +43,12 @@ pub trait Store {
     ///
     /// The fault's code, where one is met.
     fn read_at(&mut self, file: u64, offset: u64, buf: &mut [u8]) -> Result<usize, ErrorCode>
-        requires { IsFile self.old file }
+        requires { is_file self.old file }
         ensures gives { Gave result buf.new (given (told self.old) (contents self.old file) offset (length buf.old)) }
         ensures tells { told self.new ≡ after_read told_after_fault (told self.old) (given (told self.old) (contents self.old file) offset (length buf.old)) }
         ensures later { (told self.old).faults ≤ (told self.new).faults }
         ensures same { (f : ℕ) → contents self.new f ≡ contents self.old f }
-        ensures files { (f : ℕ) → IsFile self.old f → IsFile self.new f }
+        ensures files { (f : ℕ) → is_file self.old f → is_file self.new f }
         ensures rest { self.new ≡ after_read met self.old (given (told self.old) (contents self.old file) offset (length buf.old)) };
 
     /// Writes all the bytes from a place on, with zeros in a gap before them. The answer is how
@@ -59,13 +60,23 @@ pub trait Store {
     /// the store's limit, else `InsufficientSpace` exactly where all files would. Those, and want
     /// of memory, change nothing.
     fn write_at(&mut self, file: u64, at: At, bytes: &[u8]) -> Result<usize, StoreError>
-        requires { IsFile self.old file }
+        requires { is_file self.old file }
         ensures takes { Took result (taken (write_of (told self.old) (contents self.old file) at bytes.now) (length bytes.now)) }
         ensures tells { told self.new ≡ unless_no_memory result (told self.old) (told_after_write (told self.old) (contents self.old file) (write_of (told self.old) (contents self.old file) at bytes.now)) }
         ensures later { (told self.old).faults ≤ (told self.new).faults }
         ensures changes { (f : ℕ) → contents self.new f ≡ unless_no_memory result (contents self.old f) (cond (eqb (file_of f) (file_of file)) (bytes_after (contents self.old file) (write_of (told self.old) (contents self.old file) at bytes.now)) (contents self.old f)) }
-        ensures files { (f : ℕ) → IsFile self.old f → IsFile self.new f }
+        ensures files { (f : ℕ) → is_file self.old f → is_file self.new f }
         ensures rest { self.new ≡ unless_no_memory result self.old (after_write met (with_contents self.old file) self.old (write_of (told self.old) (contents self.old file) at bytes.now)) };
+}
+
+/// A write that is done took all its bytes.
+fn counted(done: Result<(), StoreError>, count: usize) -> Result<usize, StoreError>
+    ensures { result ≡ counted done count }
+{
+    match done {
+        Ok(()) => Ok(count),
+        Err(refusal) => Err(refusal),
+    }
 }
 
 impl Tree {
@@ -74,7 +85,9 @@ impl Tree {
         ensures outcome { Leaves self.old.nodes self.new.nodes result (wrote self.old.nodes file at bytes.now) }
         ensures memory { result ≡ Err OutOfMemory → IsOk (wrote self.old.nodes file at bytes.now) }
         ensures rest { self.new ≡ with_nodes self.old self.new.nodes }
+        ensures kinds { KindsStay self.old.nodes self.new.nodes }
     {
+        kinds_stay();
         self.nodes.write(file, at, bytes)
     }
 }
@@ -82,7 +95,7 @@ impl Tree {
 impl Store for Tree {
     ghost told = { tree_told };
 
-    ghost IsFile = { HasFile };
+    ghost is_file = { HasFile };
 
     ghost contents = { bytes_of_file };
 
@@ -105,10 +118,6 @@ impl Store for Tree {
             self.meet_fault();
             return Err(StoreError::Code(ErrorCode::from(kind)));
         }
-        kinds_stay();
-        match self.write_file(file, at, bytes) {
-            Ok(()) => Ok(bytes.len()),
-            Err(refusal) => Err(refusal),
-        }
+        counted(self.write_file(file, at, bytes), bytes.len())
     }
 }
