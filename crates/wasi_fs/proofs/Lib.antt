@@ -4,3 +4,4 @@ mod ListFacts
 pub mod ChangeFacts
 pub mod StayFacts
 mod StoreFacts
+mod OneFileFacts

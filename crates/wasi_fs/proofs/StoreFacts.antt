@@ -1,9 +1,10 @@
 -- What a write to the nodes' file is to a tree as a store.
-use Rattle.std.proofs.Common.{◌≡◌, ◌≢◌, ℕ, zero, suc, ◌+◌, ◌-◌, ◌≤◌, List, [], ◌∷◌, length, Option, Some, None, Result, Ok, Err, IsOk, is_ok, IfOk, Bool, true, false, cond, eqb, ltb, refl, ap, sym, subst, ◌∙◌, arith}
+use Rattle.std.proofs.Common.{◌≡◌, ◌≢◌, ℕ, zero, suc, ◌+◌, ◌-◌, ◌≤◌, List, [], ◌∷◌, length, take, drop, Option, Some, None, Result, Ok, Err, IsOk, is_ok, IfOk, Bool, true, false, cond, eqb, ltb, refl, ap, sym, subst, ◌∙◌, arith}
 use Rattle.std.proofs.lemmas.Bool.{eqb-true, eqb-false}
 use Rattle.std.proofs.lemmas.Bool.Decides.{nat_tests}
 use Rattle.std.proofs.lemmas.List.{length-append, length-take, length-drop, length-replicate}
 use Rattle.wasi_base.specs.declared.io_kind.IoKind.{IoKind}
+use Rattle.wasi_fs_types.specs.ErrorCode.{code_of_kind}
 use Rattle.wasi_fs_types.specs.declared.error_code.ErrorCode.{ErrorCode}
 use Rattle.wasi_fs_types.specs.declared.error_code.ErrorCode.TheVariants as code
 use Rattle.wasi_fs_nodes.specs.Bodies.{with_body, with_written, body_written}
@@ -20,7 +21,7 @@ use Rattle.wasi_fs_nodes.specs.declared.node.Body.TheVariants.{File, Directory, 
 use Rattle.wasi_fs_nodes.specs.declared.node.Kind.TheVariants as kinds
 use Rattle.wasi_fs_nodes.specs.declared.store_error.StoreError.{StoreError}
 use Rattle.wasi_fs_nodes.specs.declared.store_error.StoreError.TheVariants.{Code, OutOfMemory}
-use Rattle.wasi_fs.specs.Stores.{Told, Limits, Write, Fault, Refusal, Nothing, Bytes, fault_of, is_below, place_in, passed, bytes_unless, write_unless, written_from, write_of, taken, Took, after_write, unless_no_memory, counted, bytes_after, told_after_write}
+use Rattle.wasi_fs.specs.Stores.{Told, Limits, Write, Fault, Refusal, Nothing, Bytes, fault_of, is_below, place_in, given_unless, given, passed, bytes_unless, write_unless, written_from, write_of, taken, Took, after_write, unless_no_memory, counted, bytes_after, told_after_write}
 use Rattle.wasi_fs.specs.Trees.{TreeState, with_nodes, after_fault}
 use Rattle.wasi_fs.specs.TreeStore.{tree_told, HasFile, body_with_bytes, with_file}
 
@@ -133,7 +134,7 @@ files_stay old nodes (Err (Code c)) outcome k l = subst (KindsStay old) (sym l.1
 files_stay old nodes (Err OutOfMemory) outcome k l = subst (KindsStay old) (sym l) (λ n kind e. e)
 
 told_of : TreeState → ℕ → Told
-told_of old total = record { least = 0; limits = Some (record { file = 1048576; all = 67108864; taken = total }); planned = old.planned; faults = old.faults }
+told_of old total = record { least = 0; limits = Some (record { file = 1048576; all = 67108864; total = total }); planned = old.planned; faults = old.faults }
 
 is_write_of : (old : TreeState) (nodes : List Node) (file count : ℕ) (write : Write) (outcome : Result (List Node) ErrorCode) (r : Result (Unit {0}) StoreError)
     → kind_at old.nodes file ≡ Some kinds.File → Agrees old file write outcome → Leaves old.nodes nodes r outcome → (r ≡ Err OutOfMemory → IsOk outcome)
@@ -186,3 +187,21 @@ pub is_write : (old : TreeState) (nodes : List Node) (file : ℕ) (to : At) (mor
     → IsWrite old (with_nodes old nodes) file (length more) (write_of (tree_told old) (bytes_at old.nodes file) to more) (counted r (length more))
 is_write old nodes file to more r e k l m =
     is_write_of old nodes file (length more) (write_of (tree_told old) (bytes_at old.nodes file) to more) (wrote old.nodes file to more) r k (agree old file to more e) l m
+
+-- A TREE MEETS NO FAULT BUT A PLANNED ONE
+pub tree_read_met : (old : TreeState) (file offset room : ℕ) (kind : IoKind) → old.planned ≡ Some kind
+    → given (tree_told old) (bytes_at old.nodes file) offset room ≡ Err (code_of_kind kind)
+tree_read_met old file offset room kind e = ap (λ p. given_unless (fault_of p (ltb offset 0)) (bytes_at old.nodes file) (offset - 0) room) e
+
+pub tree_read_done : (old : TreeState) (file offset room : ℕ) → old.planned ≡ None
+    → given (tree_told old) (bytes_at old.nodes file) offset room ≡ Ok (take room (drop offset (bytes_at old.nodes file)))
+tree_read_done old file offset room e =
+    ap (λ fault. given_unless fault (bytes_at old.nodes file) (offset - 0) room) (no_fault old.planned (at.Offset offset) e)
+    ∙ ap (λ place. Ok (take room (drop place (bytes_at old.nodes file)))) (same_place (bytes_at old.nodes file) (at.Offset offset))
+
+pub tree_write_met : (old : TreeState) (file count : ℕ) (to : At) (more : List ℕ) (kind : IoKind) → old.planned ≡ Some kind
+    → IsWrite old (after_fault old) file count (write_of (tree_told old) (bytes_at old.nodes file) to more) (Err (Code (code_of_kind kind)))
+tree_write_met old file count to more kind e =
+    let write : Write = written_from (tree_told old).limits (bytes_at old.nodes file) (place_in 0 (length (bytes_at old.nodes file)) to) more in
+    let P : Option IoKind → Type 0 = λ p. IsWrite old (after_fault old) file count (write_unless (fault_of p (is_below 0 to)) write) (Err (Code (code_of_kind kind))) in
+    subst P (sym e) (record { takes = refl; tells = refl; changes = λ f. sym (same_at (bytes_at old.nodes) f file); rest = refl })

@@ -15,7 +15,7 @@ use Rattle.wasi_fs.specs.Trees.{risen}
 pub record Limits : Type 0 where
   pub file : ℕ
   pub all : ℕ
-  pub taken : ℕ
+  pub total : ℕ
 
 -- what a store tells of itself: the least offset, its limits, if it has any, the fault that the next call meets, and
 -- how many faults were met. The first byte of a file stands at the least offset.
@@ -83,7 +83,7 @@ abbrev pub passed : Option Limits → ℕ → ℕ → Option ErrorCode
 passed None size end = None
 passed (Some limits) size end =
     cond (ltb limits.file end) (Some code.FileTooLarge)
-    (cond (ltb limits.all (limits.taken + (end - size))) (Some code.InsufficientSpace)
+    (cond (ltb limits.all (limits.total + (end - size))) (Some code.InsufficientSpace)
     None)
 
 abbrev pub bytes_unless : Option ErrorCode → List ℕ → Write
@@ -139,7 +139,7 @@ bytes_after bytes write = after_write (λ same. same) (λ now. now) bytes write
 -- what is told where a file that had so many bytes has so many
 abbrev pub limits_grown : Option Limits → ℕ → ℕ → Option Limits
 limits_grown None size now = None
-limits_grown (Some limits) size now = Some (record { file = limits.file; all = limits.all; taken = limits.taken + (now - size) })
+limits_grown (Some limits) size now = Some (record { file = limits.file; all = limits.all; total = limits.total + (now - size) })
 
 abbrev pub told_grown : Told → ℕ → ℕ → Told
 told_grown told size now = record { least = told.least; limits = limits_grown told.limits size now; planned = told.planned; faults = told.faults }

@@ -13,7 +13,7 @@ use Rattle.wasi_fs.specs.Trees.{TreeState, with_nodes}
 abbrev pub tree_told : TreeState → Told
 tree_told tree = record {
   least = 0;
-  limits = Some (record { file = file_limit; all = tree_limit; taken = total_bytes tree.nodes });
+  limits = Some (record { file = file_limit; all = tree_limit; total = total_bytes tree.nodes });
   planned = tree.planned;
   faults = tree.faults;
 }

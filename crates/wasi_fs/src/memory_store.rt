@@ -123,17 +123,20 @@ impl Store for MemStore {
 
     fn read_at(&mut self, _file: u64, offset: u64, buf: &mut [u8]) -> Result<usize, ErrorCode> {
         let at = At::Offset(offset);
-        match self.meet_fault(self.is_below(at)) {
-            Some(code) => Err(code),
-            None => Ok(self.read_from(self.place(at), buf)),
+        let is_below = self.is_below(at);
+        if let Some(code) = self.meet_fault(is_below) {
+            return Err(code);
         }
+        Ok(self.read_from(self.place(at), buf))
     }
 
     fn write_at(&mut self, _file: u64, at: At, bytes: &[u8]) -> Result<usize, StoreError> {
-        if let Some(code) = self.meet_fault(self.is_below(at)) {
+        let is_below = self.is_below(at);
+        if let Some(code) = self.meet_fault(is_below) {
             return Err(StoreError::Code(code));
         }
-        match self.write_from(self.place(at), bytes) {
+        let place = self.place(at);
+        match self.write_from(place, bytes) {
             Ok(()) => Ok(bytes.len()),
             Err(_) => Err(StoreError::OutOfMemory),
         }
