@@ -4,4 +4,3 @@ mod ListFacts
 pub mod ChangeFacts
 pub mod StayFacts
 mod StoreFacts
-mod OneFileFacts

@@ -78,7 +78,7 @@ no_shorter : (bytes : List ℕ) (place : ℕ) (more : List ℕ) → length bytes
 no_shorter bytes place more = omega (arith, length-append {A = ℕ}, length-drop {A = ℕ}, length-take {A = ℕ}, length-replicate {A = ℕ})
 
 -- THE TWO DEFINITIONS OF A WRITE AGREE
-Agrees : TreeState → ℕ → Write → Result (List Node) ErrorCode → Type 0
+abbrev Agrees : TreeState → ℕ → Write → Result (List Node) ErrorCode → Type 0
 Agrees old file (Fault c) outcome = ⊥
 Agrees old file (Refusal c) outcome = outcome ≡ Err c
 Agrees old file Nothing outcome = outcome ≡ Ok old.nodes
@@ -127,12 +127,6 @@ pub record IsWrite (old new : TreeState) (file count : ℕ) (write : Write) (res
   pub changes : (f : ℕ) → bytes_at new.nodes f ≡ unless_no_memory result (bytes_at old.nodes f) (cond (eqb f file) (bytes_after (bytes_at old.nodes file) write) (bytes_at old.nodes f))
   pub rest : new ≡ unless_no_memory result old (after_write after_fault (with_file old file) old write)
 
--- each node stays what it is
-pub files_stay : (old nodes : List Node) (r : Result (Unit {0}) StoreError) (outcome : Result (List Node) ErrorCode) → IfOk outcome (KindsStay old) → Leaves old nodes r outcome → KindsStay old nodes
-files_stay old nodes (Ok done) outcome k l = subst (λ o. IfOk o (KindsStay old)) l k
-files_stay old nodes (Err (Code c)) outcome k l = subst (KindsStay old) (sym l.1) (λ n kind e. e)
-files_stay old nodes (Err OutOfMemory) outcome k l = subst (KindsStay old) (sym l) (λ n kind e. e)
-
 told_of : TreeState → ℕ → Told
 told_of old total = record { least = 0; limits = Some (record { file = 1048576; all = 67108864; total = total }); planned = old.planned; faults = old.faults }
 
@@ -142,7 +136,7 @@ is_write_of : (old : TreeState) (nodes : List Node) (file count : ℕ) (write : 
 is_write_of old nodes file count (Fault c) outcome r k a l m = absurd a
 is_write_of old nodes file count (Refusal c) outcome (Ok done) k a l m = absurd (cc)
 is_write_of old nodes file count (Refusal c) outcome (Err (Code d)) k a l m = record {
-  takes = sym a ∙ l.0;
+  takes = let same : c ≡ d = cc (sym a ∙ l.0) in ap Err same;
   tells = ap (λ ns. tree_told (with_nodes old ns)) l.1;
   changes = λ f. ap (λ ns. bytes_at ns f) l.1 ∙ sym (same_at (bytes_at old.nodes) f file);
   rest = ap (with_nodes old) l.1;
@@ -188,20 +182,12 @@ pub is_write : (old : TreeState) (nodes : List Node) (file : ℕ) (to : At) (mor
 is_write old nodes file to more r e k l m =
     is_write_of old nodes file (length more) (write_of (tree_told old) (bytes_at old.nodes file) to more) (wrote old.nodes file to more) r k (agree old file to more e) l m
 
--- A TREE MEETS NO FAULT BUT A PLANNED ONE
-pub tree_read_met : (old : TreeState) (file offset room : ℕ) (kind : IoKind) → old.planned ≡ Some kind
-    → given (tree_told old) (bytes_at old.nodes file) offset room ≡ Err (code_of_kind kind)
-tree_read_met old file offset room kind e = ap (λ p. given_unless (fault_of p (ltb offset 0)) (bytes_at old.nodes file) (offset - 0) room) e
-
-pub tree_read_done : (old : TreeState) (file offset room : ℕ) → old.planned ≡ None
-    → given (tree_told old) (bytes_at old.nodes file) offset room ≡ Ok (take room (drop offset (bytes_at old.nodes file)))
-tree_read_done old file offset room e =
-    ap (λ fault. given_unless fault (bytes_at old.nodes file) (offset - 0) room) (no_fault old.planned (at.Offset offset) e)
-    ∙ ap (λ place. Ok (take room (drop place (bytes_at old.nodes file)))) (same_place (bytes_at old.nodes file) (at.Offset offset))
-
-pub tree_write_met : (old : TreeState) (file count : ℕ) (to : At) (more : List ℕ) (kind : IoKind) → old.planned ≡ Some kind
-    → IsWrite old (after_fault old) file count (write_of (tree_told old) (bytes_at old.nodes file) to more) (Err (Code (code_of_kind kind)))
-tree_write_met old file count to more kind e =
-    let write : Write = written_from (tree_told old).limits (bytes_at old.nodes file) (place_in 0 (length (bytes_at old.nodes file)) to) more in
-    let P : Option IoKind → Type 0 = λ p. IsWrite old (after_fault old) file count (write_unless (fault_of p (is_below 0 to)) write) (Err (Code (code_of_kind kind))) in
-    subst P (sym e) (record { takes = refl; tells = refl; changes = λ f. sym (same_at (bytes_at old.nodes) f file); rest = refl })
+-- the same, of what the calls answered
+pub is_written : (old new : TreeState) (file : ℕ) (to : At) (more : List ℕ) (r : Result (Unit {0}) StoreError) (answer : Result ℕ StoreError) → new ≡ with_nodes old new.nodes → answer ≡ counted r (length more)
+    → old.planned ≡ None → HasFile old file → Leaves old.nodes new.nodes r (wrote old.nodes file to more) → (r ≡ Err OutOfMemory → IsOk (wrote old.nodes file to more))
+    → IsWrite old new file (length more) (write_of (tree_told old) (bytes_at old.nodes file) to more) answer
+is_written old new file to more r answer rest told e k l m =
+    let write : Write = write_of (tree_told old) (bytes_at old.nodes file) to more in
+    let P : TreeState → Type 0 = λ t. IsWrite old t file (length more) write answer in
+    let Q : Result ℕ StoreError → Type 0 = λ a. IsWrite old (with_nodes old new.nodes) file (length more) write a in
+    subst P (sym rest) (subst Q (sym told) (is_write old new.nodes file to more r e k l m))
