@@ -127,7 +127,7 @@ pub record IsWrite (old new : TreeState) (file count : ℕ) (write : Write) (res
   pub changes : (f : ℕ) → bytes_at new.nodes f ≡ unless_no_memory result (bytes_at old.nodes f) (cond (eqb f file) (bytes_after (bytes_at old.nodes file) write) (bytes_at old.nodes f))
   pub rest : new ≡ unless_no_memory result old (after_write after_fault (with_file old file) old write)
 
-told_of : TreeState → ℕ → Told
+abbrev told_of : TreeState → ℕ → Told
 told_of old total = record { least = 0; limits = Some (record { file = 1048576; all = 67108864; total = total }); planned = old.planned; faults = old.faults }
 
 is_write_of : (old : TreeState) (nodes : List Node) (file count : ℕ) (write : Write) (outcome : Result (List Node) ErrorCode) (r : Result (Unit {0}) StoreError)
