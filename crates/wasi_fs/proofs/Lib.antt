@@ -3,3 +3,4 @@ mod KeptFacts
 mod ListFacts
 pub mod ChangeFacts
 pub mod StayFacts
+mod StoreFacts

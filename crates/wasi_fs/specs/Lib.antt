@@ -7,3 +7,6 @@ pub mod Calls
 pub mod Making
 pub mod Opening
 pub mod Listing
+pub mod Stores
+pub mod TreeStore
+pub mod MemStores

@@ -9,9 +9,11 @@ mod laws;
 mod list;
 mod look_ups;
 mod making;
+mod memory_store;
 mod open;
 mod opening;
 mod outcome;
+mod store;
 #[cfg(test)]
 mod tests;
 mod times;
@@ -22,4 +24,11 @@ pub use descriptor::{Descriptor, Dir, File};
 pub use entries::{DirectoryEntries, DirectoryEntry};
 pub use laws::calls_keep_kinds;
 pub use list::map_dir_entry;
+pub use memory_store::MemStore;
+pub use store::Store;
 pub use tree::Tree;
+pub use wasi_fs_nodes::{At, StoreError};
+pub use wasi_fs_types::{
+    Advice, CwdText, DescriptorFlags, DescriptorStat, DescriptorType, ErrorCode, FilesystemError,
+    FilesystemResult, FsPerms, MetadataHashValue, NewTimestamp, OpenFlags, OpenMode, PathFlags,
+};

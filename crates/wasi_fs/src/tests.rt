@@ -5,7 +5,7 @@ ghost use Rattle.wasi_fs.specs.Trees.{IsOf};
 
 mod refusals;
 
-use crate::{Descriptor, Tree};
+use crate::{At, Descriptor, MemStore, Store, Tree};
 use bitflags::Flags;
 use std::alloc::Global;
 use std::process::Abort;
@@ -300,4 +300,43 @@ fn a_time_that_does_not_fit(rt: HostRuntime) {
     let keep = NewTimestamp::NoChange;
     let refused = code_of(tree.set_times_at(&root, PathFlags::empty(), "e", late, keep, epoch()));
     assert_eq!(rt; refused, Some(ErrorCode::Overflow));
+}
+
+#[test]
+fn a_file_of_a_tree_is_written_and_read(rt: HostRuntime) {
+    let mut tree = small_tree(&rt, rt.alloc());
+    let root = root_of(&tree);
+    let how = OpenFlags::empty();
+    let flags = DescriptorFlags::empty();
+    match tree.open_at(&root, PathFlags::empty(), "d/f", how, flags, epoch(), false) {
+        Ok(Descriptor::File(file)) => {
+            let wrote = tree.write_at(file.node, At::Offset(3), b"x");
+            assert_eq!(rt; wrote, Ok(1));
+            let mut room = [1; 8];
+            let read = tree.read_at(file.node, 1, &mut room);
+            assert_eq!(rt; read, Ok(3));
+            assert_eq!(rt; room, [b'i', 0, b'x', 1, 1, 1, 1, 1]);
+        }
+        Ok(Descriptor::Dir(_)) | Err(_) => assert!(rt; false, "no file"),
+    }
+}
+
+#[test]
+fn one_file_in_memory_is_written_and_read(rt: HostRuntime) {
+    let bytes = Vec::from_slice(rt.alloc(), b"hi").expect(&rt, "memory for two bytes");
+    let mut store = MemStore {
+        base: 10,
+        bytes,
+        faults: 0,
+        fail_next: None,
+    };
+    let wrote = store.write_at(7, At::End, b"!");
+    assert_eq!(rt; wrote, Ok(1));
+    let mut room = [1; 4];
+    let read = store.read_at(0, 11, &mut room);
+    assert_eq!(rt; read, Ok(2));
+    assert_eq!(rt; room, [b'i', b'!', 1, 1]);
+    let below = store.read_at(0, 9, &mut room);
+    assert_eq!(rt; below, Err(ErrorCode::Invalid));
+    assert_eq!(rt; store.faults, 1);
 }

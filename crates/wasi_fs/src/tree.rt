@@ -1,4 +1,4 @@
-ghost use Rattle.std.specs.Prelude.{◌≡◌, Some, None, false, IfOk};
+ghost use Rattle.std.specs.Prelude.{◌≡◌, ◌≤◌, Some, None, false, IfOk};
 ghost use Rattle.wasi_fs_nodes.specs.Changes.{root_alone};
 ghost use Rattle.wasi_fs.specs.Times.{time_of};
 ghost use Rattle.wasi_fs.specs.Trees.{IsDirOf, after_fault};
@@ -85,7 +85,8 @@ impl Tree {
 
     /// The planned fault is met: it is gone, and counted.
     pub(crate) fn meet_fault(&mut self)
-        ensures { self.new ≡ after_fault self.old }
+        ensures after { self.new ≡ after_fault self.old }
+        ensures later { self.old.faults ≤ self.new.faults }
     {
         self.planned = None;
         self.faults = self.faults.saturating_add(1);

@@ -1,7 +1,8 @@
-ghost use Rattle.std.specs.Prelude.{◌≡◌, ◌+◌, ◌<◌, ◌≤◌, length, Some, None, Ok, IfOk, OnOk};
+ghost use Rattle.std.specs.Prelude.{◌≡◌, ◌+◌, ◌<◌, ◌≤◌, length, Some, None, Ok, Err, IsOk, IfOk, OnOk};
 ghost use Rattle.wasi_fs_nodes.specs.Nodes.{kind_at, bytes_at, entry_at, total_bytes};
 ghost use Rattle.wasi_fs_nodes.specs.Outcome.{Leaves, LeavesAlways};
 ghost use Rattle.wasi_fs_nodes.specs.Changes.{may_make, made, new_file, new_directory, new_link, linked, unlinked, directory_removed, renamed, target_refusal, put_at, moved, sized, wrote, wrote_from};
+ghost use Rattle.wasi_fs_nodes.specs.declared.store_error.StoreError.TheVariants.{OutOfMemory};
 
 use crate::content::Content;
 use crate::names::Names;
@@ -304,9 +305,11 @@ impl Nodes {
     }
 
     /// Writes all the bytes, with zeros in a gap before them. A write of none changes nothing.
+    /// Memory can be wanting only where no limit would be passed.
     pub fn write(&mut self, file: u64, at: At, bytes: &[u8]) -> Result<(), StoreError>
         requires { kind_at self.old file ≡ Some Kind.File }
-        ensures { Leaves self.old self.new result (wrote self.old file at bytes.now) }
+        ensures outcome { Leaves self.old self.new result (wrote self.old file at bytes.now) }
+        ensures memory { result ≡ Err OutOfMemory → IsOk (wrote self.old file at bytes.now) }
     {
         if bytes.is_empty() {
             return Ok(());
@@ -320,7 +323,8 @@ impl Nodes {
 
     fn write_from(&mut self, file: u64, place: u64, bytes: &[u8]) -> Result<(), StoreError>
         requires { kind_at self.old file ≡ Some Kind.File }
-        ensures { Leaves self.old self.new result (wrote_from self.old file place bytes.now) }
+        ensures outcome { Leaves self.old self.new result (wrote_from self.old file place bytes.now) }
+        ensures memory { result ≡ Err OutOfMemory → IsOk (wrote_from self.old file place bytes.now) }
     {
         let length = bytes.len() as u64;
         if place > FILE_LIMIT || length > FILE_LIMIT - place {

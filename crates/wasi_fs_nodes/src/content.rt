@@ -39,10 +39,7 @@ impl Content {
         ensures within { result ≤ length buf.new }
         ensures given { take result buf.new ≡ take (length buf.old) (drop offset self.now) }
     {
-        if offset >= self.bytes.len() as u64 {
-            return 0;
-        }
-        copy_out(&self.bytes[offset as usize..], buf)
+        read_bytes(self.bytes.as_slice(), offset, buf)
     }
 
     /// Bytes over those that stand from a place on, with zeros in a gap before them.
@@ -74,8 +71,25 @@ impl Content {
     }
 }
 
-fn write_bytes(bytes: &mut Vec<u8>, place: usize, more: &[u8]) -> Result<(), AllocError>
-    requires { place + length more.now < 2 ^ 32 }
+/// Bytes from a place on, as many as the room, none past the end, into the front of `buf`. The
+/// answer is how many.
+pub fn read_bytes(bytes: &[u8], offset: u64, buf: &mut [u8]) -> usize
+    ensures within { result ≤ length buf.new }
+    ensures given { take result buf.new ≡ take (length buf.old) (drop offset bytes.now) }
+{
+    if offset >= bytes.len() as u64 {
+        return 0;
+    }
+    copy_out(&bytes[offset as usize..], buf)
+}
+
+/// Bytes over those that stand from a place on, with zeros in a gap before them.
+///
+/// # Errors
+///
+/// The allocator's refusal, which changes nothing.
+pub fn write_bytes(bytes: &mut Vec<u8>, place: usize, more: &[u8]) -> Result<(), AllocError>
+    requires { place + length more.now < 2 ^ 64 }
     ensures ok { OnOk result (bytes.new.items ≡ written bytes.old.items place more.now) }
     ensures err { OnErr result (bytes.new.items ≡ bytes.old.items) }
 {

@@ -19,7 +19,7 @@ mod tests;
 mod text;
 
 pub use at::At;
-pub use content::Content;
+pub use content::{Content, read_bytes, write_bytes};
 pub use laws::kinds_stay;
 pub use names::Names;
 pub use node::{Body, Kind, Node, Times};

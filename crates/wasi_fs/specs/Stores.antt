@@ -1,0 +1,149 @@
+-- What a store of files tells, and what a read and a write of one file answer and leave.
+use Rattle.std.specs.Prelude.{ℕ, ◌+◌, ◌-◌, List, [], ◌∷◌, length, take, drop, Option, Some, None, Result, Ok, Err, Bool, true, false, cond, ltb, ◌≡◌, ◌≤◌, IsOk}
+use Rattle.wasi_base.specs.declared.io_kind.IoKind.{IoKind}
+use Rattle.wasi_fs_types.specs.ErrorCode.{code_of_kind}
+use Rattle.wasi_fs_types.specs.declared.error_code.ErrorCode.{ErrorCode}
+use Rattle.wasi_fs_types.specs.declared.error_code.ErrorCode.TheVariants as code
+use Rattle.wasi_fs_nodes.specs.Content.{written}
+use Rattle.wasi_fs_nodes.specs.declared.at.At.{At}
+use Rattle.wasi_fs_nodes.specs.declared.at.At.TheVariants as at
+use Rattle.wasi_fs_nodes.specs.declared.store_error.StoreError.{StoreError}
+use Rattle.wasi_fs_nodes.specs.declared.store_error.StoreError.TheVariants as store
+use Rattle.wasi_fs.specs.Trees.{risen}
+
+-- the most bytes of a file, and of all files ever made; and how many bytes those have now
+pub record Limits : Type 0 where
+  pub file : ℕ
+  pub all : ℕ
+  pub total : ℕ
+
+-- what a store tells of itself: the least offset, its limits, if it has any, the fault that the next call meets, and
+-- how many faults were met. The first byte of a file stands at the least offset.
+pub record Told : Type 0 where
+  pub least : ℕ
+  pub limits : Option Limits
+  pub planned : Option IoKind
+  pub faults : ℕ
+
+-- A FAULT IS MET exactly where one is planned, or else where the offset is below the least one ..
+abbrev pub fault_of : Option IoKind → Bool → Option ErrorCode
+fault_of (Some kind) below = Some (code_of_kind kind)
+fault_of None true = Some code.Invalid
+fault_of None false = None
+
+-- .. and is then gone, and counted
+abbrev pub told_after_fault : Told → Told
+told_after_fault told = record { least = told.least; limits = told.limits; planned = None; faults = risen told.faults }
+
+-- where a call begins: whether below the least offset, and at which place of a file's bytes
+abbrev pub is_below : ℕ → At → Bool
+is_below least at.End = false
+is_below least (at.Offset offset) = ltb offset least
+
+abbrev pub place_in : ℕ → ℕ → At → ℕ
+place_in least size at.End = size
+place_in least size (at.Offset offset) = offset - least
+
+-- A READ gives the bytes from a place on, as many as the room, unless it meets a fault
+abbrev pub given_unless : Option ErrorCode → List ℕ → ℕ → ℕ → Result (List ℕ) ErrorCode
+given_unless (Some code) bytes place room = Err code
+given_unless None bytes place room = Ok (take room (drop place bytes))
+
+abbrev pub given : Told → List ℕ → ℕ → ℕ → Result (List ℕ) ErrorCode
+given told bytes offset room = given_unless (fault_of told.planned (ltb offset told.least)) bytes (offset - told.least) room
+
+-- its count and the front of its buffer say what was given
+abbrev pub Gave : Result ℕ ErrorCode → List ℕ → Result (List ℕ) ErrorCode → Type 0
+Gave (Ok count) buf outcome = (count ≤ length buf) × (outcome ≡ Ok (take count buf))
+Gave (Err code) buf outcome = outcome ≡ Err code
+
+-- what stands after a read: only a fault changes anything
+abbrev pub after_read : {S : Type 0} → (S → S) → S → Result (List ℕ) ErrorCode → S
+after_read after_fault before (Ok bytes) = before
+after_read after_fault before (Err code) = after_fault before
+
+-- a file's bytes with more of them from a place on; with none it is as it was
+abbrev pub after_more : List ℕ → ℕ → List ℕ → List ℕ
+after_more bytes place [] = bytes
+after_more bytes place (b ∷ more) = written bytes place (b ∷ more)
+
+-- WHAT A WRITE COMES TO
+pub data Write : Type 0 where
+  -- a fault is met
+  Fault : ErrorCode → Write
+  -- a limit would be passed
+  Refusal : ErrorCode → Write
+  -- there is no byte to write
+  Nothing : Write
+  -- the file's bytes after it
+  Bytes : List ℕ → Write
+
+-- the limit that a file of a size would pass when it grows to an end; that of one file counts first
+abbrev pub passed : Option Limits → ℕ → ℕ → Option ErrorCode
+passed None size end = None
+passed (Some limits) size end =
+    cond (ltb limits.file end) (Some code.FileTooLarge)
+    (cond (ltb limits.all (limits.total + (end - size))) (Some code.InsufficientSpace)
+    None)
+
+abbrev pub bytes_unless : Option ErrorCode → List ℕ → Write
+bytes_unless (Some code) bytes = Refusal code
+bytes_unless None bytes = Bytes bytes
+
+abbrev pub written_from : Option Limits → List ℕ → ℕ → List ℕ → Write
+written_from limits bytes place [] = Nothing
+written_from limits bytes place (b ∷ more) = bytes_unless (passed limits (length bytes) (place + length (b ∷ more))) (written bytes place (b ∷ more))
+
+abbrev pub write_unless : Option ErrorCode → Write → Write
+write_unless (Some code) write = Fault code
+write_unless None write = write
+
+abbrev pub write_of : Told → List ℕ → At → List ℕ → Write
+write_of told bytes to more = write_unless (fault_of told.planned (is_below told.least to)) (written_from told.limits bytes (place_in told.least (length bytes) to) more)
+
+-- a write takes all its bytes, or answers a code
+abbrev pub taken : Write → ℕ → Result ℕ ErrorCode
+taken (Fault code) count = Err code
+taken (Refusal code) count = Err code
+taken Nothing count = Ok count
+taken (Bytes bytes) count = Ok count
+
+-- want of memory comes only where there is no code
+abbrev pub Took : Result ℕ StoreError → Result ℕ ErrorCode → Type 0
+Took (Ok count) outcome = outcome ≡ Ok count
+Took (Err (store.Code code)) outcome = outcome ≡ Err code
+Took (Err store.OutOfMemory) outcome = IsOk outcome
+
+-- a write that is done took all its bytes
+abbrev pub counted : Result (Unit {0}) StoreError → ℕ → Result ℕ StoreError
+counted (Ok done) count = Ok count
+counted (Err refusal) count = Err refusal
+
+-- what stands after a write, by what a fault and the file's new bytes leave ..
+abbrev pub after_write : {S : Type 0} → (S → S) → (List ℕ → S) → S → Write → S
+after_write after_fault with_bytes before (Fault code) = after_fault before
+after_write after_fault with_bytes before (Refusal code) = before
+after_write after_fault with_bytes before Nothing = before
+after_write after_fault with_bytes before (Bytes bytes) = with_bytes bytes
+
+-- .. and want of memory leaves all as it was
+abbrev pub unless_no_memory : {S : Type 0} → Result ℕ StoreError → S → S → S
+unless_no_memory (Ok count) before after = after
+unless_no_memory (Err (store.Code code)) before after = after
+unless_no_memory (Err store.OutOfMemory) before after = before
+
+-- a file's bytes after a write
+abbrev pub bytes_after : List ℕ → Write → List ℕ
+bytes_after bytes write = after_write (λ same. same) (λ now. now) bytes write
+
+-- what is told where a file that had so many bytes has so many
+abbrev pub limits_grown : Option Limits → ℕ → ℕ → Option Limits
+limits_grown None size now = None
+limits_grown (Some limits) size now = Some (record { file = limits.file; all = limits.all; total = limits.total + (now - size) })
+
+abbrev pub told_grown : Told → ℕ → ℕ → Told
+told_grown told size now = record { least = told.least; limits = limits_grown told.limits size now; planned = told.planned; faults = told.faults }
+
+-- what is told after a write to a file of these bytes
+abbrev pub told_after_write : Told → List ℕ → Write → Told
+told_after_write told bytes write = after_write told_after_fault (λ now. told_grown told (length bytes) (length now)) told write
