@@ -1,11 +1,12 @@
 -- The host's run is a run of the rules on the shared input.
 use Rattle.std.proofs.Common.{◌≡◌, ℕ, zero, suc, ◌+◌, ◌-◌, ◌<◌, ◌≤◌, Bool, true, false, List, [], ◌∷◌, ◌++◌, length, get_or, set, take, drop, Option, Some, None, refl, ap, arith, ◌∙◌, sym, subst, true≢false}
-use Rattle.std.specs.Prelude.{is_some, replicate, nat_le, not, ◌&&◌}
+use Rattle.std.specs.Prelude.{is_some, replicate, nat_le, not, ◌&&◌, map}
 use Rattle.std.specs.Option.{option_map}
 use Rattle.std.specs.Ordering.{nat_cmp}
 use Rattle.std.specs.FinSet.{FinSet, empty, contains, contains-empty}
 use Rattle.std.proofs.lemmas.Bool.Decides.{nat_tests}
 use Rattle.std.proofs.lemmas.Grind.{common_steps}
+use Rattle.std.proofs.Math.ListN.{length-set}
 use Rattle.std.proofs.Math.Seq.{drop-append-add, drop-append_seam}
 use Rattle.wasi_base.specs.Source.{Told, Given, gives, told_after, given_by, told_by}
 use Rattle.wasi_base.specs.Source as given
@@ -14,14 +15,17 @@ use Rattle.wasi_script.specs.declared.lines.Input.{Input}
 use Rattle.wasi_script.specs.declared.lines.Line.{Line}
 use Rattle.wasi_script.specs.declared.lines.Line.TheVariants as line
 use Rattle.wasi_script.specs.declared.lines.Call.{Call}
-use Rattle.wasi_script.specs.Grammar.{AllStand, may_stand, no_names}
+use Rattle.wasi_script.specs.Grammar.{AllStand, may_stand, no_names, Names}
 use Rattle.wasi_table.specs.Table.{Held, held_at}
 use Rattle.wasi_host.specs.declared.entry.Entry.{Entry}
-use Rattle.wasi_host.specs.Host.{Guest, Host, Answered, new_guest, with_capacity, was_called_in, answer_in, names_of, new_host, given_for, size_read, step_reply, step_host, step_told, replies, host_end, told_end}
+use Rattle.wasi_host.specs.declared.stream.Stream.{Stream}
+use Rattle.wasi_host.specs.declared.stream.Stream.TheVariants as stream
+use Rattle.wasi_host.specs.Streams.{taken_of}
+use Rattle.wasi_host.specs.Host.{the_rules, Guest, Streams, Host, Answered, direction_of, with_guest_set, new_guest, with_stdout, with_stderr, with_capacity, was_called_in, answer_in, names_of, new_host, given_for, size_read, step_reply, step_host, step_told, replies, host_end, told_end}
 use Rattle.wasi_host.specs.Run.{Standing, Sharing, is_shared, Rule, IsRun, at_number, at_start, EndedRule}
-use Rattle.wasi_host.specs.Transcript.{ShowsRun, transcript, told_after_run}
+use Rattle.wasi_host.specs.Transcript.{ShowsRun, transcript, told_after_run, with_output, outputs_of, output_lines, with_name, output_names, names_end}
 use Rattle.wasi_host.specs.Owned.{IsOwn, own_new}
-use Rattle.wasi_host.specs.Shown.{standing_of, standing_where, standing_in, standing_with, shares_in, ended_in, shown, cond_same, get_set, shown_put, nothing_stands, declare_shown}
+use Rattle.wasi_host.specs.Shown.{standing_at, standing_where, standing_in, standing_with, shares_in, capacity_in, ended_in, shown, cond_same, get_set, shown_put, nothing_stands, declare_shown}
 use Rattle.wasi_host.specs.Rules.{IsGuest, OwnedBy, owned_put, Next, call_next, capture_next, deliver_next}
 use Rattle.wasi_host.specs.Steps.{names_step, names_new, places_step, within, first_of, second_of}
 use Rattle.wasi_host.specs.Lines.{are_lines}
@@ -63,7 +67,7 @@ sized_owned capacity guest live low high uncalled is =
     record { own = subst (λ live. IsOwn (with_capacity capacity guest).own live) (sym (is.fresh uncalled)) (own_new capacity low high); fresh = is.fresh }
 
 -- nothing stands yet where no number is live
-none_held : (o : Option (Held Entry)) → false ≡ is_some o → option_map standing_of o ≡ None
+none_held : (o : Option (Held Entry)) → false ≡ is_some o → standing_at o ≡ None
 none_held None e = refl
 none_held (Some held) e = absurd (cc)
 
@@ -88,7 +92,7 @@ sized_shown capacity front shared guests live told n guest e uncalled is =
 abbrev CallNext : List ℕ → List ℕ → (ℕ → FinSet nat_cmp) → Host → Told → ℕ → Call → Bool → Answered → Type 0
 CallNext input front live host told n c ended done = Next input front host.shared (guests_of host.guests) live told (λ s s'. EndedRule ended c input s n done.reply s') done.shared (at_number (guests_of host.guests) n (Some done.guest)) told
 
-call_next_in : (o : Option Guest) (input : List ℕ) (n : ℕ) (c : Call) (host : Host) (told : Told) (at : At input host told) → guests_of host.guests n ≡ o → is_some o ≡ true → CallNext input at.front at.live host told n c (ended_in o) (answer_in c o host.shared host.streams)
+call_next_in : (o : Option Guest) (input : List ℕ) (n : ℕ) (c : Call) (host : Host) (told : Told) (at : At input host told) → guests_of host.guests n ≡ o → is_some o ≡ true → CallNext input at.front at.live host told n c (ended_in o) (answer_in the_rules c o host.shared host.streams)
 call_next_in None input n c host told at e some = absurd (cc)
 call_next_in (Some guest) input n c host told at e some =
     call_next guest.ended c input at.front host.shared (guests_of host.guests) at.live told n guest host.streams refl e (subst (λ o. OwnedBy o (at.live n)) e (at.owned n)) at.owned at.sound at.input_is
@@ -128,9 +132,53 @@ sized_on input n capacity host told at (Some guest) e fits =
       rule = (refl, ap (λ guests. shown at.front host.shared guests at.live told) put ∙ sized_shown capacity at.front host.shared (guests_of host.guests) at.live told n guest e uncalled is);
     }
 
+-- a guest of which a line says no more than where its outputs go
+changed_shown : (changed : Guest) (front : List ℕ) (shared : Shared) (guests : ℕ → Option Guest) (live : ℕ → FinSet nat_cmp) (told : Told) (n : ℕ) (guest : Guest) → guests n ≡ Some guest → changed.settings.input ≡ guest.settings.input → changed.own ≡ guest.own → changed.ended ≡ guest.ended → shown front shared (at_number guests n (Some changed)) live told ≡ shown front shared guests live told
+changed_shown changed front shared guests live told n guest e input own ended =
+    shown_put front shared guests live told n changed
+    ∙ (λ i. record (shown front shared guests live told) {
+      standing = λ g. cond_same {A = ℕ → Option Standing} (λ (m : ℕ). standing_with (guests m)) g n (standing_with (Some changed)) (ap standing_with e ∙ sym (λ i. standing_where (is_shared (input i)) (own i))) i;
+      shares = λ g. cond_same {A = Bool} (λ (m : ℕ). shares_in (guests m)) g n (is_shared changed.settings.input) (ap shares_in e ∙ ap is_shared (sym input)) i;
+      capacity = λ g. cond_same {A = ℕ} (λ (m : ℕ). capacity_in (guests m)) g n changed.own.table.capacity (ap capacity_in e ∙ sym (λ i. (own i).table.capacity)) i;
+      ended = λ g. cond_same {A = Bool} (λ (m : ℕ). ended_in (guests m)) g n changed.ended (ap ended_in e ∙ sym ended) i;
+    })
+
+-- a line that says where an output of a guest goes
+pub record SaidOn (change : Guest → Guest) (input : List ℕ) (n : ℕ) (host : Host) (told : Told) (at : At input host told) : Type 0 where
+  pub next : At input (with_guest_set change n host) told
+  pub same : sharing input (with_guest_set change n host) told next ≡ sharing input host told at
+
+said_on : (change : Guest → Guest) (input : List ℕ) (n : ℕ) (host : Host) (told : Told) (at : At input host told) (o : Option Guest) → guests_of host.guests n ≡ o → is_some (guests_of host.guests n) ≡ true → ((guest : Guest) → (change guest).settings.input ≡ guest.settings.input) → ((guest : Guest) → (change guest).own ≡ guest.own) → ((guest : Guest) → (change guest).was_called ≡ guest.was_called) → ((guest : Guest) → (change guest).ended ≡ guest.ended) → SaidOn change input n host told at
+said_on change input n host told at None e there reads owns called ends = absurd (true≢false (sym there ∙ ap is_some e))
+said_on change input n host told at (Some guest) e there reads owns called ends =
+    let below : n < length host.guests = within host.guests n there in
+    let put : guests_of (with_guest_set change n host).guests ≡ at_number (guests_of host.guests) n (Some (change guest)) = ap (λ (o : Option Guest). guests_of (set host.guests n (option_map change o))) e ∙ guests_set host.guests n (change guest) below in
+    let is : IsGuest guest (at.live n) = subst (λ o. OwnedBy o (at.live n)) e (at.owned n) in
+    let still : IsGuest (change guest) (at.live n) = record { own = subst (λ own. IsOwn own (at.live n)) (sym (owns guest)) is.own; fresh = λ uncalled. is.fresh (sym (called guest) ∙ uncalled) } in
+    record {
+      next = record {
+        front = at.front;
+        live = at.live;
+        input_is = at.input_is;
+        sound = at.sound;
+        owned = λ m. owned_again (guests_of host.guests) (guests_of (with_guest_set change n host).guests) at.live n (Some (change guest)) put at.owned still m;
+        places = length-set host.guests n (option_map change (guests_of host.guests n)) ∙ at.places;
+      };
+      same = ap (λ guests. shown at.front host.shared guests at.live told) put ∙ changed_shown (change guest) at.front host.shared (guests_of host.guests) at.live told n guest e (reads guest) (owns guest) (ends guest);
+    }
+
 pub step_on : (input : List ℕ) (step : Line) (host : Host) (told : Told) (at : At input host told) → may_stand (names_of host) step ≡ true → StepOn input step host told at
 step_on input (line.Pipe name bytes) host told at fits = record { next = record { front = at.front; live = at.live; input_is = at.input_is; sound = at.sound; owned = at.owned; places = at.places }; rule = (refl, refl) }
 step_on input (line.InFile name bytes plan) host told at fits = record { next = record { front = at.front; live = at.live; input_is = at.input_is; sound = at.sound; owned = at.owned; places = at.places }; rule = (refl, refl) }
+step_on input (line.OutPipe name capacity) host told at fits = record { next = record { front = at.front; live = at.live; input_is = at.input_is; sound = at.sound; owned = at.owned; places = at.places }; rule = (refl, refl) }
+step_on input (line.OutFile name room plan) host told at fits = record { next = record { front = at.front; live = at.live; input_is = at.input_is; sound = at.sound; owned = at.owned; places = at.places }; rule = (refl, refl) }
+step_on input (line.Stdio name room plan) host told at fits = record { next = record { front = at.front; live = at.live; input_is = at.input_is; sound = at.sound; owned = at.owned; places = at.places }; rule = (refl, refl) }
+step_on input (line.Stdout n it) host told at fits =
+    let said = said_on (with_stdout it) input n host told at (guests_of host.guests n) refl (first_of _ _ (first_of _ _ fits)) (λ guest. refl) (λ guest. refl) (λ guest. refl) (λ guest. refl) in
+    record { next = said.next; rule = (refl, said.same) }
+step_on input (line.Stderr n it) host told at fits =
+    let said = said_on (with_stderr it) input n host told at (guests_of host.guests n) refl (first_of _ _ (first_of _ _ fits)) (λ guest. refl) (λ guest. refl) (λ guest. refl) (λ guest. refl) in
+    record { next = said.next; rule = (refl, said.same) }
 step_on input (line.Guest n reads) host told at fits =
     let below : n < length host.guests = rw at.places (grind (arith, nat_tests, fits)) in
     let new : guests_of host.guests n ≡ None = none_of (guests_of host.guests n) (grind (arith, nat_tests, fits)) in
@@ -149,7 +197,7 @@ step_on input (line.Guest n reads) host told at fits =
     }
 step_on input (line.Capacity n capacity) host told at fits = sized_on input n capacity host told at (guests_of host.guests n) refl fits
 step_on input (line.Call n c) host told at fits =
-    let done = answer_in c (guests_of host.guests n) host.shared host.streams in
+    let done = answer_in the_rules c (guests_of host.guests n) host.shared host.streams in
     let next = call_next_in (guests_of host.guests n) input n c host told at refl fits in
     let below : n < length host.guests = within host.guests n fits in
     let put = guests_set host.guests n done.guest below in
@@ -175,13 +223,26 @@ step_on input line.Deliver host told at fits =
 pub record Ran (input : List ℕ) (steps : List Line) (host : Host) (told : Told) (start : Sharing) : Type 0 where
   pub last : At input (host_end steps host told) (told_end steps host told)
   pub run : IsRun input start steps (replies steps host told) (sharing input (host_end steps host told) (told_end steps host told) last)
+  pub names : names_of (host_end steps host told) ≡ names_end (names_of host) steps
 
 pub run_on : (input : List ℕ) (steps : List Line) (host : Host) (told : Told) (at : At input host told) → AllStand (names_of host) steps → Ran input steps host told (sharing input host told at)
-run_on input [] host told at stand = record { last = at; run = refl }
+run_on input [] host told at stand = record { last = at; run = refl; names = refl }
 run_on input (step ∷ steps) host told at stand =
     let on = step_on input step host told at stand.0 in
-    let rest = run_on input steps (step_host step host told) (step_told step host told) on.next (rw (names_step step host (given_for (size_read step host) told) at.places stand.0) stand.1) in
-    record { last = rest.last; run = (sharing input (step_host step host told) (step_told step host told) on.next, on.rule, rest.run) }
+    let named = names_step step host (given_for (size_read step host) told) at.places stand.0 in
+    let rest = run_on input steps (step_host step host told) (step_told step host told) on.next (rw named stand.1) in
+    record { last = rest.last; run = (sharing input (step_host step host told) (step_told step host told) on.next, on.rule, rest.run); names = rest.names ∙ ap (λ names. names_end names steps) named }
+
+-- the outputs of a host are those that are declared
+output_names_of : (streams : Streams) → map (λ output. output.0) (outputs_of streams) ≡ output_names (map (λ row. (row.0, direction_of row.1)) streams)
+output_names_of [] = refl
+output_names_of (row ∷ streams) = by row.1 (output_names_of streams)
+  where
+    by : (it : Stream) → map (λ output. output.0) (outputs_of streams) ≡ output_names (map (λ row. (row.0, direction_of row.1)) streams) → map (λ output. output.0) (with_output row.0 (taken_of it) (outputs_of streams)) ≡ with_name row.0 (direction_of it) (output_names (map (λ row. (row.0, direction_of row.1)) streams))
+    by (stream.OutPipe pipe) rest = ap (λ names. row.0 ∷ names) rest
+    by (stream.OutFile out) rest = ap (λ names. row.0 ∷ names) rest
+    by (stream.Stdio out) rest = ap (λ names. row.0 ∷ names) rest
+    by other rest = rest
 
 no_guests : guests_of (replicate 64 None) ≡ (λ g. None)
 no_guests = λ i g. none_of_none 64 g i
@@ -214,8 +275,10 @@ headline steps told stand =
       answers = replies steps new_host told;
       last = sharing told.left end (told_end steps new_host told) at;
       run = subst (λ start. IsRun told.left start steps (replies steps new_host told) (sharing told.left end (told_end steps new_host told) at)) (shown_new told) ran.run;
+      outputs = outputs_of end.streams;
+      declared = output_names_of end.streams ∙ ap (λ (names : Names). output_names names.streams) (ran.names ∙ ap (λ names. names_end names steps) names_new);
       text_is = refl;
-      lines_are = are_lines (replies steps new_host told);
+      lines_are = are_lines (replies steps new_host told) (output_lines (outputs_of end.streams));
       told_is = refl;
       given_is = slices told.left at.front end.shared.held (told_end steps new_host told).left at.input_is;
       left_is = rest_is told.left at.front end.shared.held (told_end steps new_host told).left at.input_is;

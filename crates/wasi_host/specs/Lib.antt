@@ -15,3 +15,5 @@ pub mod Rules
 pub mod Lines
 pub mod Headline
 pub mod Reach
+pub mod Kept
+pub mod Filled

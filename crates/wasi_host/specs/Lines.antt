@@ -15,7 +15,7 @@ use Rattle.wasi_base.specs.TrapText.{trap_text}
 use Rattle.wasi_host.specs.declared.reply.Reply.{Reply}
 use Rattle.wasi_host.specs.declared.reply.Reply.TheVariants as reply
 use Rattle.wasi_host.specs.Reply.{hex_of, text_of, text_of_all}
-use Rattle.wasi_host.specs.Transcript.{AreLines}
+use Rattle.wasi_host.specs.Transcript.{lines_in}
 
 -- bytes among which no line ends
 abbrev pub IsOneLine : List ℕ → Type 0
@@ -126,21 +126,24 @@ split_line : (line rest : List ℕ) → IsOneLine line → slice_split (λ byte.
 split_line [] rest h = refl
 split_line (x ∷ line) rest h = slice_split-cons_no (λ byte. nat_eq byte 10) x (line ++ 10 ∷ rest) h.0 ∙ ap (onto_first x) (split_line line rest h.1)
 
-pub are_lines : (replies : List Reply) → AreLines (map text_of replies) (text_of_all replies)
-are_lines [] = refl
-are_lines (it ∷ replies) =
-    ap (slice_split (λ byte. nat_eq byte 10)) (append_assoc (text_of it) (10 ∷ []) (text_of_all replies))
-    ∙ split_line (text_of it) (text_of_all replies) (text_line it)
-    ∙ ap (λ lines. text_of it ∷ lines) (are_lines replies)
+-- the lines of a text that begins with replies
+pub are_lines : (replies : List Reply) (rest : List ℕ) → lines_in (text_of_all replies ++ rest) ≡ map text_of replies ++ lines_in rest
+are_lines [] rest = refl
+are_lines (it ∷ replies) rest =
+    ap lines_in (append_assoc (text_of it ++ 10 ∷ []) (text_of_all replies) rest ∙ append_assoc (text_of it) (10 ∷ []) (text_of_all replies ++ rest))
+    ∙ split_line (text_of it) (text_of_all replies ++ rest) (text_line it)
+    ∙ ap (λ lines. text_of it ∷ lines) (are_lines replies rest)
 
-without_last : (a b : List (List ℕ)) → a ++ [] ∷ [] ≡ b ++ [] ∷ [] → a ≡ b
-without_last [] [] e = refl
-without_last [] (y ∷ []) e = absurd (cc)
-without_last [] (y ∷ z ∷ b) e = absurd (cc)
-without_last (x ∷ []) [] e = absurd (cc)
-without_last (x ∷ z ∷ a) [] e = absurd (cc)
-without_last (x ∷ a) (y ∷ b) e = let same : x ≡ y = cc in let rest : a ++ [] ∷ [] ≡ b ++ [] ∷ [] = cc in rw same (ap (λ lines. y ∷ lines) (without_last a b rest))
+same_front : {A B : Type 0} (f : A → List B) (a b : List A) (x y : List (List B)) → length a ≡ length b → map f a ++ x ≡ map f b ++ y → map f a ≡ map f b
+same_front f [] [] x y n e = refl
+same_front f [] (y0 ∷ b) x y n e = absurd (cc)
+same_front f (x0 ∷ a) [] x y n e = absurd (cc)
+same_front f (x0 ∷ a) (y0 ∷ b) x y n e =
+    let first : f x0 ≡ f y0 = cc in
+    let rest : map f a ++ x ≡ map f b ++ y = cc in
+    let count : length a ≡ length b = omega (arith, n) in
+    rw first (ap (λ lines. f y0 ∷ lines) (same_front f a b x y count rest))
 
--- the lines fix the replies
-pub lines_fix : (a b : List Reply) → text_of_all a ≡ text_of_all b → map text_of a ≡ map text_of b
-lines_fix a b e = without_last (map text_of a) (map text_of b) (sym (are_lines a) ∙ ap (slice_split (λ byte. nat_eq byte 10)) e ∙ are_lines b)
+-- the lines fix as many replies
+pub lines_fix : (a b : List Reply) (rest more : List ℕ) → length a ≡ length b → text_of_all a ++ rest ≡ text_of_all b ++ more → map text_of a ≡ map text_of b
+lines_fix a b rest more count e = same_front text_of a b (lines_in rest) (lines_in more) count (sym (are_lines a rest) ∙ ap lines_in e ∙ are_lines b more)

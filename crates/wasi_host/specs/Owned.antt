@@ -11,7 +11,8 @@ use Rattle.wasi_table.specs.Children.{has_child}
 use Rattle.wasi_table.specs.Sound.{IsTable}
 use Rattle.wasi_table.specs.Laws.{held-insert, held-remove, held-next_number, is_eq-nat_cmp, live_count-pushed, new_table-IsTable, pushed-IsTable, without-IsTable, with_entry-IsTable}
 use Rattle.wasi_host.specs.declared.entry.Entry.{Entry}
-use Rattle.wasi_host.specs.declared.entry.Entry.TheVariants.{Reader, Polled, Pollable}
+use Rattle.wasi_host.specs.declared.entry.Entry.TheVariants.{Reader, Polled, Pollable, Writer, PolledWriter, Always}
+use Rattle.wasi_host.specs.declared.entry.Standard.{Standard}
 use Rattle.wasi_host.specs.Calls.{Own, entry_at, with_kept}
 
 -- a pollable has a parent, and no other entry has one
@@ -22,12 +23,23 @@ IsParented (Polled wait) None = Unit {0}
 IsParented (Polled wait) (Some parent) = ⊥
 IsParented (Pollable wait) None = ⊥
 IsParented (Pollable wait) (Some parent) = Unit {0}
+IsParented (Writer it) None = Unit {0}
+IsParented (Writer it) (Some parent) = ⊥
+IsParented (PolledWriter it) None = Unit {0}
+IsParented (PolledWriter it) (Some parent) = ⊥
+IsParented Always None = ⊥
+IsParented Always (Some parent) = Unit {0}
+
+-- a pollable of the input stands under a reader, and one of an output under a writer
+abbrev pub IsUnder : Entry → Option Entry → Type 0
+IsUnder (Pollable wait) parent = parent ≡ Some Reader
+IsUnder Always parent = (it : Standard) × (parent ≡ Some (Writer it))
+IsUnder other parent = ⊥
 
 pub record IsOwn (own : Own) (live : FinSet nat_cmp) : Type 0 where
   pub table : IsTable own.table
   pub parented : (n : ℕ) (held : Held Entry) → held_at own.table n ≡ Some held → IsParented held.entry held.parent
-  -- a parent is a reader
-  pub under : (n parent : ℕ) (held : Held Entry) → held_at own.table n ≡ Some held → held.parent ≡ Some parent → entry_at own parent ≡ Some Reader
+  pub under : (n parent : ℕ) (held : Held Entry) → held_at own.table n ≡ Some held → held.parent ≡ Some parent → IsUnder held.entry (entry_at own parent)
   pub members : (n : ℕ) → contains live n ≡ is_live own.table n
   pub count : len live ≡ live_count own.table
 
@@ -58,9 +70,14 @@ or_there : (b there : Bool) → (b ≡ true → there ≡ true) → (b || there)
 or_there true there h = sym (h refl)
 or_there false there h = refl
 
-is_there : (o : Option (Held Entry)) → entry_in o ≡ Some Reader → is_some o ≡ true
-is_there None e = absurd (true≢false (sym (ap is_some e)))
-is_there (Some held) e = refl
+is_there : (child : Entry) (o : Option (Held Entry)) → IsUnder child (entry_in o) → is_some o ≡ true
+is_there child (Some held) under = refl
+is_there (Pollable wait) None under = absurd (true≢false (sym (ap is_some under)))
+is_there Always None under = absurd (true≢false (sym (ap is_some under.1)))
+is_there Reader None under = absurd under
+is_there (Polled wait) None under = absurd under
+is_there (Writer it) None under = absurd under
+is_there (PolledWriter it) None under = absurd under
 
 -- where one number's entry is written or taken, another's stays
 put_away : (b : Bool) (x o : Option (Held Entry)) → (b ≡ true → ⊥) → entry_in (cond b x o) ≡ entry_in o
@@ -79,8 +96,8 @@ own_new capacity low high = record {
 pub own_left : (own : Own) (live : FinSet nat_cmp) → IsOwn own live → IsOwn (record { table = new_table own.table.capacity }) empty
 own_left own live is = own_new own.table.capacity is.table.not_empty is.table.bound
 
-pub own_pushed : (own : Own) (live : FinSet nat_cmp) (entry : Entry) (parent : Option ℕ) → IsOwn own live → push_refusal own.table parent ≡ None → IsParented entry parent → ((p : ℕ) → parent ≡ Some p → entry_at own p ≡ Some Reader) → IsOwn (record { table = with_pushed own.table entry parent }) (insert live (next_number own.table))
-own_pushed own live entry parent is room parented reader =
+pub own_pushed : (own : Own) (live : FinSet nat_cmp) (entry : Entry) (parent : Option ℕ) → IsOwn own live → push_refusal own.table parent ≡ None → IsParented entry parent → ((p : ℕ) → parent ≡ Some p → IsUnder entry (entry_at own p)) → IsOwn (record { table = with_pushed own.table entry parent }) (insert live (next_number own.table))
+own_pushed own live entry parent is room parented under =
     let t = own.table in
     let n = next_number t in
     let held : Held Entry = record { entry = entry; parent = parent } in
@@ -89,18 +106,18 @@ own_pushed own live entry parent is room parented reader =
       table = pushed-IsTable t entry parent is.table room;
       parented = λ m other e. from_put (λ (held : Held Entry). IsParented held.entry held.parent) (eqb m n) held other (held_at t m) parented (is.parented m other) (sym (held-insert t.entries n held m) ∙ e);
       under = λ m p other e of.
-          let before = from_put (λ (held : Held Entry). held.parent ≡ Some p → entry_at own p ≡ Some Reader) (eqb m n) held other (held_at t m) (reader p) (is.under m p other) (sym (held-insert t.entries n held m) ∙ e) of in
-          ap entry_in (held-insert t.entries n held p)
-          ∙ put_away (eqb p n) (Some held) (held_at t p) (λ same. true≢false (sym (is_there (held_at t p) before) ∙ ap (is_live t) (eqb-true p n same) ∙ free))
-          ∙ before;
+          let before : IsUnder other.entry (entry_at own p) = from_put (λ (held : Held Entry). held.parent ≡ Some p → IsUnder held.entry (entry_at own p)) (eqb m n) held other (held_at t m) (under p) (is.under m p other) (sym (held-insert t.entries n held m) ∙ e) of in
+          subst (IsUnder other.entry) (sym (ap entry_in (held-insert t.entries n held p)
+          ∙ put_away (eqb p n) (Some held) (held_at t p) (λ same. true≢false (sym (is_there other.entry (held_at t p) before) ∙ ap (is_live t) (eqb-true p n same) ∙ free)))) before;
       members = λ m. contains-insert nat_cmp_total live n m
           ∙ (λ i. is_eq-nat_cmp m n i || is.members m i)
           ∙ sym (ap is_some (held-insert t.entries n held m) ∙ some_put (eqb m n) held (held_at t m));
       count = len-insert nat_cmp_total live n ∙ cond-false (contains live n) _ _ (is.members n ∙ free) ∙ ap (λ k. k + 1) is.count ∙ sym (live_count-pushed t entry parent is.table);
     }
 
-pub own_kept : (own : Own) (live : FinSet nat_cmp) (n : ℕ) (entry : Entry) (held : Held Entry) → IsOwn own live → held_at own.table n ≡ Some held → IsParented entry held.parent → (held.entry ≡ Reader → ⊥) → IsOwn (with_kept own n entry) live
-own_kept own live n entry held is there parented other_kind =
+-- an entry that is written again: under what it stood under, and with nothing under it
+pub own_kept : (own : Own) (live : FinSet nat_cmp) (n : ℕ) (entry : Entry) (held : Held Entry) → IsOwn own live → held_at own.table n ≡ Some held → IsParented entry held.parent → ((o : Option Entry) → IsUnder held.entry o → IsUnder entry o) → ((child : Entry) → IsUnder child (Some held.entry) → ⊥) → IsOwn (with_kept own n entry) live
+own_kept own live n entry held is there parented again alone =
     let t = own.table in
     let alive : is_live t n ≡ true = ap is_some there in
     let now : Held Entry = record { entry = entry; parent = parent_in (held_at t n) } in
@@ -108,10 +125,9 @@ own_kept own live n entry held is there parented other_kind =
       table = with_entry-IsTable t n entry is.table alive;
       parented = λ m other e. from_put (λ (held : Held Entry). IsParented held.entry held.parent) (eqb m n) now other (held_at t m) (subst (λ o. IsParented entry (parent_in o)) (sym there) parented) (is.parented m other) (sym (held-insert t.entries n now m) ∙ e);
       under = λ m p other e of.
-          let before = from_put (λ (held : Held Entry). held.parent ≡ Some p → entry_at own p ≡ Some Reader) (eqb m n) now other (held_at t m) (λ of. is.under n p held there (sym (ap parent_in there) ∙ of)) (is.under m p other) (sym (held-insert t.entries n now m) ∙ e) of in
-          ap entry_in (held-insert t.entries n now p)
-          ∙ put_away (eqb p n) (Some now) (held_at t p) (λ same. other_kind (same_some (λ it. held.entry ≡ it) held.entry Reader (sym (ap entry_in there) ∙ ap (entry_at own) (sym (eqb-true p n same)) ∙ before) refl))
-          ∙ before;
+          let before : IsUnder other.entry (entry_at own p) = from_put (λ (held : Held Entry). held.parent ≡ Some p → IsUnder held.entry (entry_at own p)) (eqb m n) now other (held_at t m) (λ of. again (entry_at own p) (is.under n p held there (sym (ap parent_in there) ∙ of))) (is.under m p other) (sym (held-insert t.entries n now m) ∙ e) of in
+          subst (IsUnder other.entry) (sym (ap entry_in (held-insert t.entries n now p)
+          ∙ put_away (eqb p n) (Some now) (held_at t p) (λ same. alone other.entry (subst (IsUnder other.entry) (ap (entry_at own) (eqb-true p n same) ∙ ap entry_in there) before)))) before;
       members = λ m. is.members m
           ∙ sym (ap is_some (held-insert t.entries n now m) ∙ some_put (eqb m n) now (held_at t m)
           ∙ or_there (eqb m n) (is_live t m) (λ same. ap (is_live t) (eqb-true m n same) ∙ alive));
@@ -127,10 +143,9 @@ own_dropped own live n held is there childless =
       parented = λ m other e. from_cut (λ (held : Held Entry). IsParented held.entry held.parent) (eqb m n) other (held_at t m) (is.parented m other) (sym (held-remove t.entries n m) ∙ e);
       under = λ m p other e of.
           let kept : held_at t m ≡ Some other = from_cut (λ held. held_at t m ≡ Some held) (eqb m n) other (held_at t m) (λ kept. kept) (sym (held-remove t.entries n m) ∙ e) in
-          let before = is.under m p other kept of in
-          ap entry_in (held-remove t.entries n p)
-          ∙ put_away (eqb p n) None (held_at t p) (λ same. true≢false (sym (has_child t n (record { number = m; held = other; is_held = kept; parent_is = of ∙ ap Some (eqb-true p n same) })) ∙ childless))
-          ∙ before;
+          let before : IsUnder other.entry (entry_at own p) = is.under m p other kept of in
+          subst (IsUnder other.entry) (sym (ap entry_in (held-remove t.entries n p)
+          ∙ put_away (eqb p n) None (held_at t p) (λ same. true≢false (sym (has_child t n (record { number = m; held = other; is_held = kept; parent_is = of ∙ ap Some (eqb-true p n same) })) ∙ childless)))) before;
       members = λ m. contains-remove nat_cmp_total live n m
           ∙ (λ i. not (is_eq-nat_cmp m n i) && is.members m i)
           ∙ sym (ap is_some (held-remove t.entries n m) ∙ some_cut (eqb m n) (held_at t m));

@@ -26,23 +26,28 @@ use Rattle.wasi_stdin.specs.Shared as stdin
 use Rattle.wasi_stdin.specs.Shared.{Shared, Reading, Skipped, Polling, Met, IsSound, HoldsIn, CapturedIn, met_in, after_in, meeting_of, after_meeting, reading, reading_of, after_read, told_fault, skipped, polling, poll_of, after_poll, wait_of, wait_after_poll, is_waiting, ready_in, is_ready, asked_by_ready, after_ready, block_of, after_block, wait_after_block, mode_holding, capture_at, capture_of, captured_by, after_capture, outcome_of, mode_given, held_given, delivered}
 use Rattle.wasi_script.specs.declared.lines.Input.{Input}
 use Rattle.wasi_script.specs.declared.lines.Input.TheVariants as from
+use Rattle.wasi_script.specs.declared.lines.Output.{Output}
+use Rattle.wasi_script.specs.declared.lines.OutputCall.{OutputCall}
+use Rattle.wasi_script.specs.declared.lines.OutputCall.TheVariants as on_output
 use Rattle.wasi_script.specs.declared.lines.Line.TheVariants as line
 use Rattle.wasi_script.specs.declared.lines.Call.{Call}
 use Rattle.wasi_script.specs.declared.lines.Call.TheVariants as call
 use Rattle.wasi_host.specs.declared.entry.Entry.{Entry}
 use Rattle.wasi_host.specs.declared.entry.Entry.TheVariants as entry
+use Rattle.wasi_host.specs.declared.entry.Standard.{Standard}
+use Rattle.wasi_host.specs.declared.entry.Standard.TheVariants as standard
 use Rattle.wasi_host.specs.declared.reply.Reply.{Reply}
 use Rattle.wasi_host.specs.declared.reply.Reply.TheVariants as reply
 use Rattle.wasi_host.specs.Reply.{ends}
 use Rattle.wasi_host.specs.declared.stream.Stream.{Stream}
 use Rattle.wasi_host.specs.declared.stream.Stream.TheVariants as none
-use Rattle.wasi_host.specs.Streams.{input_read, input_skip, input_poll_read, after_input_read}
-use Rattle.wasi_host.specs.Calls.{Own, Called, on_own, only_reply, entry_at, made, with_kept, shared_manner, stream_manner, read_at, skip_at, poll_at, subscribe_at, ready_at, block_at, drop_at, exit_status, call_rule, reading_reply, skipped_reply, polling_reply, bytes_reply, count_reply, poll_reply}
-use Rattle.wasi_host.specs.Host.{Guest, Streams, stream_of, put_stream, Answered, answer_shared, answer_stream, answer_from, answer_by, capture_reply, outcome_reply, delivery_reply, after_delivery, given_for, told_for}
-use Rattle.wasi_host.specs.Run.{Standing, Sharing, Rule, at_number, with_standing, without_standing, without_guest, held_count, after_row, ReadRule, SkipRule, counted, is_over, PollRow, ready_row, after_ready_row, ReadyRule, block_row, BlockRow, BlockRule, MakeRule, is_full, HasPollable, DropReader, ReadAt, SkipAt, PollAt, SubscribeAt, ReadyAt, BlockAt, DropAt, CallRule, live_after, left_by, AskedRule, EndedRule, is_shared, size_captured, CaptureRule, delivery_row, delivery_answer, delivered_row, DeliverRule}
+use Rattle.wasi_host.specs.Streams.{input_read, input_skip, input_poll_read, after_input_read, output_check_write, output_write, output_flush, output_poll_write, output_poll_flush}
+use Rattle.wasi_host.specs.Calls.{Own, Called, Sending, Sent, on_own, only_reply, refused, entry_at, made, with_kept, shared_manner, stream_manner, read_at, skip_at, poll_at, subscribe_at, ready_at, block_at, drop_at, exit_status, call_rule, reading_reply, skipped_reply, polling_reply, bytes_reply, count_reply, poll_reply, writer_for, sending_to, sending_of, sent, done_reply, poll_count_reply, poll_done_reply}
+use Rattle.wasi_host.specs.Host.{the_rules, Guest, Streams, stream_of, put_stream, stream_to, output_of, Answered, answer_shared, answer_stream, answer_output, answer_from, answer_on, answer_by, capture_reply, outcome_reply, delivery_reply, after_delivery, given_for, told_for}
+use Rattle.wasi_host.specs.Run.{Standing, Sharing, Rule, at_number, with_standing, without_standing, without_guest, held_count, after_row, ReadRule, SkipRule, counted, is_over, PollRow, ready_row, after_ready_row, ReadyRule, block_row, BlockRow, BlockRule, MakeRule, is_full, HasPollable, DropReader, ReadAt, SkipAt, PollAt, SubscribeAt, ReadyAt, BlockAt, DropAt, CallRule, OtherRule, live_after, left_by, AskedRule, EndedRule, is_shared, size_captured, CaptureRule, delivery_row, delivery_answer, delivered_row, DeliverRule}
 use Rattle.wasi_host.specs.Run as run
-use Rattle.wasi_host.specs.Owned.{IsParented, IsOwn, own_pushed, own_kept, own_dropped, own_left}
-use Rattle.wasi_host.specs.Shown.{parent_or, standing_by, standing_of, standing_in, standing_where, standing_with, shares_in, capacity_in, ended_in, shown, cond_same, with_own, put_alike, put_same, put_unshared, stands_there, put_standing, put_none, nothing_stands, asked_none, row_next}
+use Rattle.wasi_host.specs.Owned.{IsParented, IsUnder, IsOwn, own_pushed, own_kept, own_dropped, own_left}
+use Rattle.wasi_host.specs.Shown.{parent_or, standing_by, standing_at, standing_in, standing_where, standing_with, shares_in, capacity_in, ended_in, shown, cond_same, with_own, put_alike, put_same, put_unshared, stands_there, put_standing, put_none, nothing_stands, asked_none, row_next}
 
 cond_map : {A B : Type 0} (f : A → B) (b : Bool) (x y : A) → f (cond b x y) ≡ cond b (f x) (f y)
 cond_map f true x y = refl
@@ -81,21 +86,21 @@ ready_is (Failed kind) = refl
 ready_is Closed = refl
 
 -- what stands where an entry is written, pushed or taken
-standing_kept : (own : Own) (n : ℕ) (it : Entry) (parent : Option ℕ) (m : ℕ) → parent_in (held_at own.table n) ≡ parent → standing_in (with_kept own n it) m ≡ cond (nat_eq m n) (Some (standing_by it parent)) (standing_in own m)
+standing_kept : (own : Own) (n : ℕ) (it : Entry) (parent : Option ℕ) (m : ℕ) → parent_in (held_at own.table n) ≡ parent → standing_in (with_kept own n it) m ≡ cond (nat_eq m n) (standing_by it parent) (standing_in own m)
 standing_kept own n it parent m e =
-    ap (option_map standing_of) (held-insert own.table.entries n (record { entry = it; parent = parent_in (held_at own.table n) }) m)
-    ∙ cond_map (option_map standing_of) (eqb m n) (Some (record { entry = it; parent = parent_in (held_at own.table n) })) (held_at own.table m)
-    ∙ ap (λ parent. cond (nat_eq m n) (Some (standing_by it parent)) (standing_in own m)) e
+    ap standing_at (held-insert own.table.entries n (record { entry = it; parent = parent_in (held_at own.table n) }) m)
+    ∙ cond_map standing_at (eqb m n) (Some (record { entry = it; parent = parent_in (held_at own.table n) })) (held_at own.table m)
+    ∙ ap (λ parent. cond (nat_eq m n) (standing_by it parent) (standing_in own m)) e
 
-standing_pushed : (own : Own) (it : Entry) (parent : Option ℕ) (m : ℕ) → standing_in (record { table = with_pushed own.table it parent }) m ≡ cond (nat_eq m (next_number own.table)) (Some (standing_by it parent)) (standing_in own m)
+standing_pushed : (own : Own) (it : Entry) (parent : Option ℕ) (m : ℕ) → standing_in (record { table = with_pushed own.table it parent }) m ≡ cond (nat_eq m (next_number own.table)) (standing_by it parent) (standing_in own m)
 standing_pushed own it parent m =
-    ap (option_map standing_of) (held-insert own.table.entries (next_number own.table) (record { entry = it; parent = parent }) m)
-    ∙ cond_map (option_map standing_of) (eqb m (next_number own.table)) (Some (record { entry = it; parent = parent })) (held_at own.table m)
+    ap standing_at (held-insert own.table.entries (next_number own.table) (record { entry = it; parent = parent }) m)
+    ∙ cond_map standing_at (eqb m (next_number own.table)) (Some (record { entry = it; parent = parent })) (held_at own.table m)
 
 standing_dropped : (own : Own) (n m : ℕ) → standing_in (record { table = without own.table n }) m ≡ cond (nat_eq m n) None (standing_in own m)
 standing_dropped own n m =
-    ap (option_map standing_of) (held-remove own.table.entries n m)
-    ∙ cond_map (option_map standing_of) (eqb m n) None (held_at own.table m)
+    ap standing_at (held-remove own.table.entries n m)
+    ∙ cond_map standing_at (eqb m n) None (held_at own.table m)
 
 -- ---- a call of one guest
 -- what the call comes to: what is handed out then, and the rule that the reply and what is left follow
@@ -121,12 +126,16 @@ ready_sound Held held c d h k = record { holds = h; captures = k }
 ready_sound (Failed kind) held c d h k = record { holds = h; captures = k }
 ready_sound Closed held c d h k = record { holds = h; captures = k }
 
--- an entry's number stands in the run as it is held
-no_reader : (wait : Option ℕ) → entry.Polled wait ≡ entry.Reader → ⊥
-no_reader wait e = cc
+-- nothing stands under a polled input, and nothing under a pollable
+polled_alone : (wait : Option ℕ) (child : Entry) → IsUnder child (Some (entry.Polled wait)) → ⊥
+polled_alone wait (entry.Pollable w) under = cc
+polled_alone wait entry.Always under = let e = under.1 in cc
+polled_alone wait other under = under
 
-no_reader_either : (wait : Option ℕ) → entry.Pollable wait ≡ entry.Reader → ⊥
-no_reader_either wait e = cc
+pollable_alone : (wait : Option ℕ) (child : Entry) → IsUnder child (Some (entry.Pollable wait)) → ⊥
+pollable_alone wait (entry.Pollable w) under = cc
+pollable_alone wait entry.Always under = let e = under.1 in cc
+pollable_alone wait other under = under
 
 module _ (input front : List ℕ) (shared : Shared) (guests : ℕ → Option Guest) (live : ℕ → FinSet nat_cmp) (told : Told) (g : ℕ) (guest : Guest) (there : guests g ≡ Some guest) (sharing : is_shared guest.settings.input ≡ true) (is : IsOwn guest.own (live g)) (sound : IsSound shared) (input_is : input ≡ front ++ (shared.held ++ told.left)) where
   abbrev now : Sharing
@@ -170,33 +179,38 @@ module _ (input front : List ℕ) (shared : Shared) (guests : ℕ → Option Gue
         rule = follows _ (next.read guests live, put_same next.front' (after_read shared (suc n)) guests live told g guest there ∙ next.state guests live);
       }
 
-  read_does : (n size : ℕ) (o : Option (Row Entry)) → DoesCall (call.Read n size) (read_at shared_manner (entry_in o) size guest.own shared) (λ answer s'. ReadAt (option_map standing_of o) input now size answer s')
+  read_does : (n size : ℕ) (o : Option (Row Entry)) → DoesCall (call.Read n size) (read_at shared_manner (entry_in o) size guest.own shared) (λ answer s'. ReadAt (standing_at o) input now size answer s')
   read_does n size None = still (call.Read n size) (reply.Trap ResourceNotPresent) _ refl refl
   read_does n size (Some held) = by held.entry held.parent
     where
-      by : (it : Entry) (parent : Option ℕ) → DoesCall (call.Read n size) (read_at shared_manner (Some it) size guest.own shared) (λ answer s'. ReadAt (Some (standing_by it parent)) input now size answer s')
+      by : (it : Entry) (parent : Option ℕ) → DoesCall (call.Read n size) (read_at shared_manner (Some it) size guest.own shared) (λ answer s'. ReadAt (standing_by it parent) input now size answer s')
       by entry.Reader parent = reads (call.Read n size) size (reading_reply (reading_of shared size)) _ (reading_live (call.Read n size) (reading_of shared size) (live g)) (λ s' rule. rule)
-      by (entry.Polled wait) parent = still (call.Read n size) (reply.Trap ResourceWrongType) _ refl refl
-      by (entry.Pollable wait) parent = still (call.Read n size) (reply.Trap ResourceWrongType) _ refl refl
+      by other parent = still (call.Read n size) (reply.Trap ResourceWrongType) _ refl refl
 
-  skip_does : (n size : ℕ) (o : Option (Row Entry)) → DoesCall (call.Skip n size) (skip_at shared_manner (entry_in o) size guest.own shared) (λ answer s'. SkipAt (option_map standing_of o) input now size answer s')
+  skip_does : (n size : ℕ) (o : Option (Row Entry)) → DoesCall (call.Skip n size) (skip_at shared_manner (entry_in o) size guest.own shared) (λ answer s'. SkipAt (standing_at o) input now size answer s')
   skip_does n size None = still (call.Skip n size) (reply.Trap ResourceNotPresent) _ refl refl
   skip_does n size (Some held) = by held.entry held.parent
     where
-      by : (it : Entry) (parent : Option ℕ) → DoesCall (call.Skip n size) (skip_at shared_manner (Some it) size guest.own shared) (λ answer s'. SkipAt (Some (standing_by it parent)) input now size answer s')
+      by : (it : Entry) (parent : Option ℕ) → DoesCall (call.Skip n size) (skip_at shared_manner (Some it) size guest.own shared) (λ answer s'. SkipAt (standing_by it parent) input now size answer s')
       by entry.Reader parent = reads (call.Skip n size) size (skipped_reply (skipped (reading_of shared size))) _ (skipped_live (call.Skip n size) (reading_of shared size) (live g)) (λ s' rule. (reading_reply (reading_of shared size), rule, counted_is (reading_of shared size)))
-      by (entry.Polled wait) parent = still (call.Skip n size) (reply.Trap ResourceWrongType) _ refl refl
-      by (entry.Pollable wait) parent = still (call.Skip n size) (reply.Trap ResourceWrongType) _ refl refl
+      by other parent = still (call.Skip n size) (reply.Trap ResourceWrongType) _ refl refl
 
   -- ---- an entry that keeps its wait
+  -- a guest whose own shows nothing new
+  alike : (own : Own) → ((m : ℕ) → standing_in own m ≡ standing_in guest.own m) → own.table.capacity ≡ guest.own.table.capacity → shown front shared (at_number guests g (Some (with_own guest own))) live told ≡ now
+  alike own same capacity =
+      put_alike front shared guests live told g guest own there
+      (ap (λ b. standing_where b own) sharing ∙ (λ i m. same m i) ∙ sym (ap (λ b. standing_where b guest.own) sharing))
+      capacity
+
   -- the same entry again shows nothing new
   kept_alike : (n : ℕ) (it : Entry) (parent : Option ℕ) → held_at guest.own.table n ≡ Some (record { entry = it; parent = parent }) → shown front shared (at_number guests g (Some (with_own guest (with_kept guest.own n it)))) live told ≡ now
   kept_alike n it parent held =
-      put_alike front shared guests live told g guest (with_kept guest.own n it) there
-      (ap (λ b. standing_where b (with_kept guest.own n it)) sharing
-      ∙ (λ i m. (standing_kept guest.own n it parent m (ap parent_in held) ∙ cond_same (standing_in guest.own) m n (Some (standing_by it parent)) (ap (option_map standing_of) held)) i)
-      ∙ sym (ap (λ b. standing_where b guest.own) sharing))
-      refl
+      alike (with_kept guest.own n it) (λ m. standing_kept guest.own n it parent m (ap parent_in held) ∙ cond_same (standing_in guest.own) m n (standing_by it parent) (ap standing_at held)) refl
+
+  -- what stands at a number is what its entry shows
+  at_there : (n : ℕ) → standing_in guest.own n ≡ now.standing g n
+  at_there n = sym (ap (λ (standing : ℕ → Option Standing). standing n) (stands_there guests g guest there sharing))
 
   abbrev polled_called : Bool → Option ℕ → ℕ → ℕ → Called Shared
   polled_called waiting wait n room = record {
@@ -210,7 +224,7 @@ module _ (input front : List ℕ) (shared : Shared) (guests : ℕ → Option Gue
     front = front;
     input_is = input_is;
     sound = sound;
-    owned = own_kept guest.own (live g) n (entry.Polled wait) (record { entry = entry.Polled wait; parent = parent }) is held (is.parented n (record { entry = entry.Polled wait; parent = parent }) held) (no_reader wait);
+    owned = own_kept guest.own (live g) n (entry.Polled wait) (record { entry = entry.Polled wait; parent = parent }) is held (is.parented n (record { entry = entry.Polled wait; parent = parent }) held) (λ o under. under) (polled_alone wait);
     capacity = refl;
     rule = (refl, kept_alike n (entry.Polled wait) parent held);
   }
@@ -222,7 +236,7 @@ module _ (input front : List ℕ) (shared : Shared) (guests : ℕ → Option Gue
         input_is = next.input_is;
         sound = next.sound;
         owned = subst (λ live. IsOwn (with_kept guest.own n (entry.Polled left)) live) (sym (polling_live (call.PollRead n room) (polling (meeting_of shared room)) (live g)))
-            (own_kept guest.own (live g) n (entry.Polled left) (record { entry = entry.Polled wait; parent = parent }) is held (polled_again wait left parent (is.parented n (record { entry = entry.Polled wait; parent = parent }) held)) (no_reader wait));
+            (own_kept guest.own (live g) n (entry.Polled left) (record { entry = entry.Polled wait; parent = parent }) is held (polled_again wait left parent (is.parented n (record { entry = entry.Polled wait; parent = parent }) held)) (λ o under. under) (polled_alone wait));
         capacity = refl;
         rule = (
           next.poll guests live,
@@ -236,41 +250,54 @@ module _ (input front : List ℕ) (shared : Shared) (guests : ℕ → Option Gue
       polled_again wait left None h = tt
       polled_again wait left (Some p) h = h
 
-  poll_does : (n room : ℕ) (o : Option (Row Entry)) → held_at guest.own.table n ≡ o → DoesCall (call.PollRead n room) (poll_at shared_manner (entry_in o) n room guest.own shared) (λ answer s'. PollAt (option_map standing_of o) input now g n room answer s')
+  poll_does : (n room : ℕ) (o : Option (Row Entry)) → held_at guest.own.table n ≡ o → DoesCall (call.PollRead n room) (poll_at shared_manner (entry_in o) n room guest.own shared) (λ answer s'. PollAt (standing_at o) input now g n room answer s')
   poll_does n room None held = still (call.PollRead n room) (reply.Trap ResourceNotPresent) _ refl refl
   poll_does n room (Some it) held = by it.entry it.parent held
     where
-      by : (it : Entry) (parent : Option ℕ) → held_at guest.own.table n ≡ Some (record { entry = it; parent = parent }) → DoesCall (call.PollRead n room) (poll_at shared_manner (Some it) n room guest.own shared) (λ answer s'. PollAt (Some (standing_by it parent)) input now g n room answer s')
-      by entry.Reader parent held = still (call.PollRead n room) (reply.Trap ResourceWrongType) _ refl refl
+      by : (it : Entry) (parent : Option ℕ) → held_at guest.own.table n ≡ Some (record { entry = it; parent = parent }) → DoesCall (call.PollRead n room) (poll_at shared_manner (Some it) n room guest.own shared) (λ answer s'. PollAt (standing_by it parent) input now g n room answer s')
       by (entry.Polled wait) parent held =
           subst (λ (waiting : Bool). DoesCall (call.PollRead n room) (polled_called waiting wait n room) (λ (answer : Reply) (s' : Sharing). PollRow (is_over wait shared.deliveries) input now g n room answer s')) (sym (waiting_is wait shared.deliveries)) (polls (is_over wait shared.deliveries) wait n room parent held)
-      by (entry.Pollable wait) parent held = still (call.PollRead n room) (reply.Trap ResourceWrongType) _ refl refl
+      by other parent held = still (call.PollRead n room) (reply.Trap ResourceWrongType) _ refl refl
 
   -- ---- a new entry
-  makes : (c : Call) (it : Entry) (parent : Option ℕ) → (nat_eq (live_count guest.own.table) guest.own.table.capacity ≡ false → push_refusal guest.own.table parent ≡ None) → IsParented it parent → ((p : ℕ) → parent ≡ Some p → entry_at guest.own p ≡ Some entry.Reader) → DoesCall c (on_own (made it parent guest.own) shared) (λ answer s'. MakeRule (is_full now g) (standing_by it parent) now g answer s')
-  makes c it parent room parented reader =
-      subst (λ full. DoesCall c (on_own (made it parent guest.own) shared) (λ answer s'. MakeRule full (standing_by it parent) now g answer s')) (sym full_is) (by (nat_eq (live_count guest.own.table) guest.own.table.capacity) refl)
+  makes : (c : Call) (it : Entry) (parent : Option ℕ) (stands : Standing) → standing_by it parent ≡ Some stands → (nat_eq (live_count guest.own.table) guest.own.table.capacity ≡ false → push_refusal guest.own.table parent ≡ None) → IsParented it parent → ((p : ℕ) → parent ≡ Some p → IsUnder it (entry_at guest.own p)) → DoesCall c (on_own (made it parent guest.own) shared) (λ answer s'. MakeRule (is_full now g) stands now g answer s')
+  makes c it parent stands shows room parented under =
+      subst (λ full. DoesCall c (on_own (made it parent guest.own) shared) (λ answer s'. MakeRule full stands now g answer s')) (sym full_is) (by (nat_eq (live_count guest.own.table) guest.own.table.capacity) refl)
     where
       full_is : is_full now g ≡ nat_eq (live_count guest.own.table) guest.own.table.capacity
       full_is = λ i. nat_eq (is.count i) (capacity_in (there i))
 
-      after : Own
-      after = record { table = with_pushed guest.own.table it parent }
-
-      by : (full : Bool) → nat_eq (live_count guest.own.table) guest.own.table.capacity ≡ full → DoesCall c (on_own (cond full (only_reply (reply.Trap ResourceTableFull) guest.own) (record { reply = reply.Handle (next_number guest.own.table); own = record { table = with_pushed guest.own.table it parent } })) shared) (λ answer s'. MakeRule full (standing_by it parent) now g answer s')
+      by : (full : Bool) → nat_eq (live_count guest.own.table) guest.own.table.capacity ≡ full → DoesCall c (on_own (cond full (only_reply (reply.Trap ResourceTableFull) guest.own) (record { reply = reply.Handle (next_number guest.own.table); own = record { table = with_pushed guest.own.table it parent } })) shared) (λ answer s'. MakeRule full stands now g answer s')
       by true e = still c (reply.Trap ResourceTableFull) _ refl (refl, refl)
       by false e = record {
         front = front;
         input_is = input_is;
         sound = sound;
-        owned = own_pushed guest.own (live g) it parent is (room e) parented reader;
+        owned = own_pushed guest.own (live g) it parent is (room e) parented under;
         capacity = refl;
         rule = (
           next_number guest.own.table,
           refl,
           is.members (next_number guest.own.table) ∙ ap is_some (held-next_number guest.own.table is.table),
-          put_standing front shared guests live told g (next_number guest.own.table) guest (record { table = with_pushed guest.own.table it parent }) (standing_by it parent) there sharing (λ m. standing_pushed guest.own it parent m) refl,
+          put_standing front shared guests live told g (next_number guest.own.table) guest (record { table = with_pushed guest.own.table it parent }) stands there sharing (λ m. standing_pushed guest.own it parent m ∙ ap (λ o. cond (nat_eq m (next_number guest.own.table)) o (standing_in guest.own m)) shows) refl,
         );
+      }
+
+  -- a new entry that is no matter of the shared input
+  makes_apart : (c : Call) (it : Entry) (parent : Option ℕ) → standing_by it parent ≡ None → (nat_eq (live_count guest.own.table) guest.own.table.capacity ≡ false → push_refusal guest.own.table parent ≡ None) → IsParented it parent → ((p : ℕ) → parent ≡ Some p → IsUnder it (entry_at guest.own p)) → DoesCall c (on_own (made it parent guest.own) shared) (λ answer s'. OtherRule now s')
+  makes_apart c it parent none room parented under = by (nat_eq (live_count guest.own.table) guest.own.table.capacity) refl
+    where
+      by : (full : Bool) → nat_eq (live_count guest.own.table) guest.own.table.capacity ≡ full → DoesCall c (on_own (cond full (only_reply (reply.Trap ResourceTableFull) guest.own) (record { reply = reply.Handle (next_number guest.own.table); own = record { table = with_pushed guest.own.table it parent } })) shared) (λ answer s'. OtherRule now s')
+      by true e = still c (reply.Trap ResourceTableFull) _ refl refl
+      by false e = record {
+        front = front;
+        input_is = input_is;
+        sound = sound;
+        owned = own_pushed guest.own (live g) it parent is (room e) parented under;
+        capacity = refl;
+        rule = alike (record { table = with_pushed guest.own.table it parent }) (λ m. standing_pushed guest.own it parent m
+            ∙ ap (λ o. cond (nat_eq m (next_number guest.own.table)) o (standing_in guest.own m)) none
+            ∙ cond_same (standing_in guest.own) m (next_number guest.own.table) None (ap standing_at (held-next_number guest.own.table is.table))) refl;
       }
 
   room_for_one : nat_eq (live_count guest.own.table) guest.own.table.capacity ≡ false → push_refusal guest.own.table None ≡ None
@@ -279,26 +306,24 @@ module _ (input front : List ℕ) (shared : Shared) (guests : ℕ → Option Gue
   room_for_child : (n : ℕ) → is_live guest.own.table n ≡ true → nat_eq (live_count guest.own.table) guest.own.table.capacity ≡ false → push_refusal guest.own.table (Some n) ≡ None
   room_for_child n alive e = cond-true (is_live guest.own.table n) _ _ alive ∙ ap (λ full. cond full (Some Full) None) e
 
-  no_parent : (it : Entry) (p : ℕ) → None ≡ Some p → entry_at guest.own p ≡ Some entry.Reader
+  no_parent : (it : Entry) (p : ℕ) → None ≡ Some p → IsUnder it (entry_at guest.own p)
   no_parent it p e = absurd (true≢false (sym (ap is_some e)))
 
-  subscribe_does : (n : ℕ) (o : Option (Row Entry)) → held_at guest.own.table n ≡ o → DoesCall (call.Subscribe n) (on_own (subscribe_at (entry_in o) n guest.own) shared) (λ answer s'. SubscribeAt (option_map standing_of o) now g n answer s')
+  subscribe_does : (n : ℕ) (o : Option (Row Entry)) → held_at guest.own.table n ≡ o → DoesCall (call.Subscribe n) (on_own (subscribe_at (entry_in o) n guest.own) shared) (λ answer s'. SubscribeAt (standing_at o) now g n answer s')
   subscribe_does n None held = still (call.Subscribe n) (reply.Trap ResourceNotPresent) _ refl refl
   subscribe_does n (Some it) held = by it.entry it.parent held
     where
-      by : (it : Entry) (parent : Option ℕ) → held_at guest.own.table n ≡ Some (record { entry = it; parent = parent }) → DoesCall (call.Subscribe n) (on_own (subscribe_at (Some it) n guest.own) shared) (λ answer s'. SubscribeAt (Some (standing_by it parent)) now g n answer s')
-      by entry.Reader parent held = makes (call.Subscribe n) (entry.Pollable None) (Some n) (room_for_child n (ap is_some held)) tt (λ p e. let same : n ≡ p = cc in ap (entry_at guest.own) (sym same) ∙ ap entry_in held)
-      by (entry.Polled wait) parent held = still (call.Subscribe n) (reply.Trap ResourceWrongType) _ refl refl
-      by (entry.Pollable wait) parent held = still (call.Subscribe n) (reply.Trap ResourceWrongType) _ refl refl
+      by : (it : Entry) (parent : Option ℕ) → held_at guest.own.table n ≡ Some (record { entry = it; parent = parent }) → DoesCall (call.Subscribe n) (on_own (subscribe_at (Some it) n guest.own) shared) (λ answer s'. SubscribeAt (standing_by it parent) now g n answer s')
+      by entry.Reader parent held = makes (call.Subscribe n) (entry.Pollable None) (Some n) (run.Pollable n None) refl (room_for_child n (ap is_some held)) tt (λ p e. let same : n ≡ p = cc in ap (entry_at guest.own) (sym same) ∙ ap entry_in held)
+      by (entry.Writer to) parent held = makes_apart (call.Subscribe n) entry.Always (Some n) refl (room_for_child n (ap is_some held)) tt (λ p e. let same : n ≡ p = cc in (to, ap (entry_at guest.own) (sym same) ∙ ap entry_in held))
+      by other parent held = still (call.Subscribe n) (reply.Trap ResourceWrongType) _ refl refl
 
   -- ---- a pollable
-  ready_does : (n : ℕ) (o : Option (Row Entry)) → DoesCall (call.Ready n) (ready_at shared_manner (entry_in o) guest.own shared) (λ answer s'. ReadyAt (option_map standing_of o) now answer s')
+  ready_does : (n : ℕ) (o : Option (Row Entry)) → DoesCall (call.Ready n) (ready_at shared_manner (entry_in o) guest.own shared) (λ answer s'. ReadyAt (standing_at o) now answer s')
   ready_does n None = still (call.Ready n) (reply.Trap ResourceNotPresent) _ refl refl
   ready_does n (Some held) = by held.entry held.parent
     where
-      by : (it : Entry) (parent : Option ℕ) → DoesCall (call.Ready n) (ready_at shared_manner (Some it) guest.own shared) (λ answer s'. ReadyAt (Some (standing_by it parent)) now answer s')
-      by entry.Reader parent = still (call.Ready n) (reply.Trap ResourceWrongType) _ refl refl
-      by (entry.Polled wait) parent = still (call.Ready n) (reply.Trap ResourceWrongType) _ refl refl
+      by : (it : Entry) (parent : Option ℕ) → DoesCall (call.Ready n) (ready_at shared_manner (Some it) guest.own shared) (λ answer s'. ReadyAt (standing_by it parent) now answer s')
       by (entry.Pollable wait) parent = record {
         front = front;
         input_is = input_is;
@@ -307,13 +332,15 @@ module _ (input front : List ℕ) (shared : Shared) (guests : ℕ → Option Gue
         capacity = refl;
         rule = (ap reply.Truth (ready_is shared.mode), put_same front (after_ready shared) guests live told g guest there ∙ ready_state shared.mode front shared guests live told refl);
       }
+      by entry.Always parent = still (call.Ready n) (reply.Truth true) _ refl refl
+      by other parent = still (call.Ready n) (reply.Trap ResourceWrongType) _ refl refl
 
   pollable_again : (wait left parent : Option ℕ) → IsParented (entry.Pollable wait) parent → IsParented (entry.Pollable left) parent
   pollable_again wait left None h = h
   pollable_again wait left (Some p) h = tt
 
   kept_pollable : (n : ℕ) (wait left parent : Option ℕ) → held_at guest.own.table n ≡ Some (record { entry = entry.Pollable wait; parent = parent }) → IsOwn (with_kept guest.own n (entry.Pollable left)) (live g)
-  kept_pollable n wait left parent held = own_kept guest.own (live g) n (entry.Pollable left) (record { entry = entry.Pollable wait; parent = parent }) is held (pollable_again wait left parent (is.parented n (record { entry = entry.Pollable wait; parent = parent }) held)) (no_reader_either wait)
+  kept_pollable n wait left parent held = own_kept guest.own (live g) n (entry.Pollable left) (record { entry = entry.Pollable wait; parent = parent }) is held (pollable_again wait left parent (is.parented n (record { entry = entry.Pollable wait; parent = parent }) held)) (λ o under. under) (pollable_alone wait)
 
   waits : (over : Bool) (since n : ℕ) (parent : Option ℕ) → held_at guest.own.table n ≡ Some (record { entry = entry.Pollable (Some since); parent = parent }) → DoesCall (call.Block n) (record { reply = reply.Truth over; own = with_kept guest.own n (entry.Pollable (cond over None (Some since))); left = shared }) (λ answer s'. BlockRow over now g n (parent_or parent) answer s')
   waits false since n parent held = record {
@@ -351,40 +378,38 @@ module _ (input front : List ℕ) (shared : Shared) (guests : ℕ → Option Gue
       }
   blocks (Some since) n parent held = waits (nat_lt since shared.deliveries) since n parent held
 
-  block_does : (n : ℕ) (o : Option (Row Entry)) → held_at guest.own.table n ≡ o → DoesCall (call.Block n) (block_at shared_manner (entry_in o) n guest.own shared) (λ answer s'. BlockAt (option_map standing_of o) now g n answer s')
+  block_does : (n : ℕ) (o : Option (Row Entry)) → held_at guest.own.table n ≡ o → DoesCall (call.Block n) (block_at shared_manner (entry_in o) n guest.own shared) (λ answer s'. BlockAt (standing_at o) now g n answer s')
   block_does n None held = still (call.Block n) (reply.Trap ResourceNotPresent) _ refl refl
   block_does n (Some it) held = by it.entry it.parent held
     where
-      by : (it : Entry) (parent : Option ℕ) → held_at guest.own.table n ≡ Some (record { entry = it; parent = parent }) → DoesCall (call.Block n) (block_at shared_manner (Some it) n guest.own shared) (λ answer s'. BlockAt (Some (standing_by it parent)) now g n answer s')
-      by entry.Reader parent held = still (call.Block n) (reply.Trap ResourceWrongType) _ refl refl
-      by (entry.Polled wait) parent held = still (call.Block n) (reply.Trap ResourceWrongType) _ refl refl
+      by : (it : Entry) (parent : Option ℕ) → held_at guest.own.table n ≡ Some (record { entry = it; parent = parent }) → DoesCall (call.Block n) (block_at shared_manner (Some it) n guest.own shared) (λ answer s'. BlockAt (standing_by it parent) now g n answer s')
       by (entry.Pollable wait) parent held = blocks wait n parent held
+      by entry.Always parent held = still (call.Block n) (reply.Truth true) _ refl refl
+      by other parent held = still (call.Block n) (reply.Trap ResourceWrongType) _ refl refl
 
   -- ---- a drop
-  pollable_is : (n : ℕ) (it : Entry) (parent : Option ℕ) → IsParented it parent → parent ≡ Some n → (wait : Option ℕ) × (standing_by it parent ≡ run.Pollable n wait)
-  pollable_is n entry.Reader None h e = absurd (true≢false (sym (ap is_some e)))
-  pollable_is n entry.Reader (Some p) h e = absurd h
-  pollable_is n (entry.Polled wait) None h e = absurd (true≢false (sym (ap is_some e)))
-  pollable_is n (entry.Polled wait) (Some p) h e = absurd h
-  pollable_is n (entry.Pollable wait) None h e = absurd h
-  pollable_is n (entry.Pollable wait) (Some p) h e = (wait, ap (λ o. run.Pollable (parent_or o) wait) e)
+  pollable_is : (n : ℕ) (it : Entry) (parent : Option ℕ) → IsParented it parent → parent ≡ Some n → IsUnder it (Some entry.Reader) → (wait : Option ℕ) × (standing_by it parent ≡ Some (run.Pollable n wait))
+  pollable_is n (entry.Pollable wait) None h e under = absurd h
+  pollable_is n (entry.Pollable wait) (Some p) h e under = (wait, ap (λ o. Some (run.Pollable (parent_or o) wait)) e)
+  pollable_is n entry.Always parent h e under = let no = under.1 in absurd (cc)
+  pollable_is n other parent h e under = absurd under
 
-  has_pollable : (n : ℕ) → Child guest.own.table n → HasPollable now g n
-  has_pollable n child =
-      let found = pollable_is n child.held.entry child.held.parent (is.parented child.number child.held child.is_held) child.parent_is in
-      (child.number, found.0, ap (λ (standing : ℕ → Option Standing). standing child.number) (stands_there guests g guest there sharing) ∙ ap (option_map standing_of) child.is_held ∙ ap Some found.1)
+  has_pollable : (n : ℕ) → entry_at guest.own n ≡ Some entry.Reader → Child guest.own.table n → HasPollable now g n
+  has_pollable n reader child =
+      let found = pollable_is n child.held.entry child.held.parent (is.parented child.number child.held child.is_held) child.parent_is (subst (IsUnder child.held.entry) reader (is.under child.number n child.held child.is_held child.parent_is)) in
+      (child.number, found.0, ap (λ (standing : ℕ → Option Standing). standing child.number) (stands_there guests g guest there sharing) ∙ ap standing_at child.is_held ∙ found.1)
 
-  parent_is : (n : ℕ) (wait : Option ℕ) (it : Entry) (parent : Option ℕ) → IsParented it parent → standing_by it parent ≡ run.Pollable n wait → parent ≡ Some n
-  parent_is n wait entry.Reader parent h e = absurd (cc)
-  parent_is n wait (entry.Polled w) parent h e = absurd (cc)
+  parent_is : (n : ℕ) (wait : Option ℕ) (it : Entry) (parent : Option ℕ) → IsParented it parent → standing_by it parent ≡ Some (run.Pollable n wait) → parent ≡ Some n
   parent_is n wait (entry.Pollable w) None h e = absurd h
   parent_is n wait (entry.Pollable w) (Some p) h e = let same : p ≡ n = cc in ap Some same
+  parent_is n wait entry.Reader parent h e = absurd (cc)
+  parent_is n wait (entry.Polled w) parent h e = absurd (cc)
+  parent_is n wait other parent h e = absurd (true≢false (sym (ap is_some e)))
 
-  child_in : (n m : ℕ) (wait : Option ℕ) (o : Option (Row Entry)) → held_at guest.own.table m ≡ o → option_map standing_of o ≡ Some (run.Pollable n wait) → Child guest.own.table n
+  child_in : (n m : ℕ) (wait : Option ℕ) (o : Option (Row Entry)) → held_at guest.own.table m ≡ o → standing_at o ≡ Some (run.Pollable n wait) → Child guest.own.table n
   child_in n m wait None held e = absurd (true≢false (sym (ap is_some e)))
   child_in n m wait (Some it) held e =
-      let same : standing_by it.entry it.parent ≡ run.Pollable n wait = cc in
-      record { number = m; held = it; is_held = held; parent_is = parent_is n wait it.entry it.parent (is.parented m it held) same }
+      record { number = m; held = it; is_held = held; parent_is = parent_is n wait it.entry it.parent (is.parented m it held) e }
 
   no_pollable : (n : ℕ) → has_children guest.own.table n ≡ false → HasPollable now g n → ⊥
   no_pollable n none has =
@@ -404,29 +429,47 @@ module _ (input front : List ℕ) (shared : Shared) (guests : ℕ → Option Gue
         rule = none e _ (put_none front shared guests live told g n guest (record { table = without guest.own.table n }) there sharing (λ m. standing_dropped guest.own n m) refl);
       }
 
-  -- the parent of a child is a reader
-  childless : (n : ℕ) (it : Entry) (parent : Option ℕ) → held_at guest.own.table n ≡ Some (record { entry = it; parent = parent }) → (it ≡ entry.Reader → ⊥) → has_children guest.own.table n ≡ true → ⊥
-  childless n it parent held other has =
+  -- nothing stands under other entries than readers and writers
+  childless : (n : ℕ) (it : Entry) (parent : Option ℕ) → held_at guest.own.table n ≡ Some (record { entry = it; parent = parent }) → ((child : Entry) → IsUnder child (Some it) → ⊥) → has_children guest.own.table n ≡ true → ⊥
+  childless n it parent held alone has =
       let child = child_of guest.own.table n has in
-      let reader : Some it ≡ Some entry.Reader = sym (ap entry_in held) ∙ is.under child.number n child.held child.is_held child.parent_is in
-      other (cc)
+      alone child.held.entry (subst (IsUnder child.held.entry) (ap entry_in held) (is.under child.number n child.held child.is_held child.parent_is))
 
-  drop_does : (n : ℕ) (o : Option (Row Entry)) → held_at guest.own.table n ≡ o → DoesCall (call.Drop n) (on_own (drop_at (entry_in o) n guest.own) shared) (λ answer s'. DropAt (option_map standing_of o) now g n answer s')
+  -- a number at which nothing stands that is a matter of the shared input
+  without_none : (n : ℕ) → now.standing g n ≡ None → without_standing now g n ≡ now
+  without_none n none =
+      let same : at_number (now.standing g) n None ≡ now.standing g = λ j k. cond_same {A = Option Standing} (now.standing g) k n None none j in
+      λ i. record now { standing = λ m. cond_same {A = ℕ → Option Standing} now.standing m g (at_number (now.standing g) n None) (sym same) i }
+
+  drops_apart : (n : ℕ) (it : Entry) (parent : Option ℕ) → held_at guest.own.table n ≡ Some (record { entry = it; parent = parent }) → standing_by it parent ≡ None → DoesCall (call.Drop n) (on_own (drop_at (Some it) n guest.own) shared) (λ answer s'. OtherRule now s')
+  drops_apart n it parent held none = drops n it parent _ held (λ has. refl) (λ without s' e. e ∙ without_none n (sym (at_there n) ∙ ap standing_at held ∙ none))
+
+  drop_does : (n : ℕ) (o : Option (Row Entry)) → held_at guest.own.table n ≡ o → DoesCall (call.Drop n) (on_own (drop_at (entry_in o) n guest.own) shared) (λ answer s'. DropAt (standing_at o) now g n answer s')
   drop_does n None held = still (call.Drop n) (reply.Trap ResourceNotPresent) _ refl refl
   drop_does n (Some it) held = by it.entry it.parent held
     where
-      by : (it : Entry) (parent : Option ℕ) → held_at guest.own.table n ≡ Some (record { entry = it; parent = parent }) → DoesCall (call.Drop n) (on_own (drop_at (Some it) n guest.own) shared) (λ answer s'. DropAt (Some (standing_by it parent)) now g n answer s')
-      by entry.Reader parent held = drops n entry.Reader parent _ held (λ has. inl (has_pollable n (child_of guest.own.table n has), refl, refl)) (λ none s' e. inr (no_pollable n none, refl, e))
-      by (entry.Polled wait) parent held = drops n (entry.Polled wait) parent _ held (λ has. absurd (childless n (entry.Polled wait) parent held (no_reader wait) has)) (λ none s' e. (refl, e))
-      by (entry.Pollable wait) parent held = drops n (entry.Pollable wait) parent _ held (λ has. absurd (childless n (entry.Pollable wait) parent held (no_reader_either wait) has)) (λ none s' e. (refl, e))
+      by : (it : Entry) (parent : Option ℕ) → held_at guest.own.table n ≡ Some (record { entry = it; parent = parent }) → DoesCall (call.Drop n) (on_own (drop_at (Some it) n guest.own) shared) (λ answer s'. DropAt (standing_by it parent) now g n answer s')
+      by entry.Reader parent held = drops n entry.Reader parent _ held (λ has. inl (has_pollable n (ap entry_in held) (child_of guest.own.table n has), refl, refl)) (λ none s' e. inr (no_pollable n none, refl, e))
+      by (entry.Polled wait) parent held = drops n (entry.Polled wait) parent _ held (λ has. absurd (childless n (entry.Polled wait) parent held (polled_alone wait) has)) (λ none s' e. (refl, e))
+      by (entry.Pollable wait) parent held = drops n (entry.Pollable wait) parent _ held (λ has. absurd (childless n (entry.Pollable wait) parent held (pollable_alone wait) has)) (λ none s' e. (refl, e))
+      by (entry.Writer to) parent held = drops_apart n (entry.Writer to) parent held refl
+      by (entry.PolledWriter to) parent held = drops_apart n (entry.PolledWriter to) parent held refl
+      by entry.Always parent held = drops_apart n entry.Always parent held refl
+
+  -- ---- a call on an output, at whose number no writer of its kind stands
+  refuses : (n : ℕ) (it : OutputCall) (o : Option Entry) → DoesCall (call.OnOutput n it) (on_own (refused o guest.own) shared) (λ answer s'. OtherRule now s')
+  refuses n it None = still (call.OnOutput n it) (reply.Trap ResourceNotPresent) _ refl refl
+  refuses n it (Some other) = still (call.OnOutput n it) (reply.Trap ResourceWrongType) _ refl refl
 
   -- ---- each call
-  at_there : (n : ℕ) → (λ (o : Option Standing). o) (standing_in guest.own n) ≡ now.standing g n
-  at_there n = sym (ap (λ (standing : ℕ → Option Standing). standing n) (stands_there guests g guest there sharing))
-
   rule_does : (c : Call) → DoesCall c (call_rule shared_manner c guest.own shared) (λ answer s'. CallRule c input now g answer s')
-  rule_does call.GetStdin = makes call.GetStdin entry.Reader None room_for_one tt (no_parent entry.Reader)
-  rule_does call.AsyncStdin = makes call.AsyncStdin (entry.Polled None) None room_for_one tt (no_parent (entry.Polled None))
+  rule_does call.GetStdin = makes call.GetStdin entry.Reader None run.Reader refl room_for_one tt (no_parent entry.Reader)
+  rule_does call.AsyncStdin = makes call.AsyncStdin (entry.Polled None) None (run.Polled None) refl room_for_one tt (no_parent (entry.Polled None))
+  rule_does call.GetStdout = makes_apart call.GetStdout (entry.Writer standard.Output) None refl room_for_one tt (no_parent (entry.Writer standard.Output))
+  rule_does call.GetStderr = makes_apart call.GetStderr (entry.Writer standard.Error) None refl room_for_one tt (no_parent (entry.Writer standard.Error))
+  rule_does call.AsyncStdout = makes_apart call.AsyncStdout (entry.PolledWriter standard.Output) None refl room_for_one tt (no_parent (entry.PolledWriter standard.Output))
+  rule_does call.AsyncStderr = makes_apart call.AsyncStderr (entry.PolledWriter standard.Error) None refl room_for_one tt (no_parent (entry.PolledWriter standard.Error))
+  rule_does (call.OnOutput n it) = refuses n it (entry_at guest.own n)
   rule_does (call.Read n size) = subst (λ it. DoesCall (call.Read n size) (read_at shared_manner (entry_at guest.own n) size guest.own shared) (λ answer s'. ReadAt it input now size answer s')) (at_there n) (read_does n size (held_at guest.own.table n))
   rule_does (call.Skip n size) = subst (λ it. DoesCall (call.Skip n size) (skip_at shared_manner (entry_at guest.own n) size guest.own shared) (λ answer s'. SkipAt it input now size answer s')) (at_there n) (skip_does n size (held_at guest.own.table n))
   rule_does (call.PollRead n room) = subst (λ it. DoesCall (call.PollRead n room) (poll_at shared_manner (entry_at guest.own n) n room guest.own shared) (λ answer s'. PollAt it input now g n room answer s')) (at_there n) (poll_does n room (held_at guest.own.table n) refl)
@@ -508,18 +551,21 @@ module _ (own : Own) (live : FinSet nat_cmp) (is : IsOwn own live) (s : Stream) 
   own_same : (c : Call) (answer : Reply) (left : Stream) → live_after c answer live ≡ live → OwnAfter c (record { reply = answer; own = own; left = left })
   own_same c answer left same = (subst (λ live. IsOwn own live) (sym same) is, refl)
 
-  own_made : (c : Call) (it : Entry) (parent : Option ℕ) → (nat_eq (live_count own.table) own.table.capacity ≡ false → push_refusal own.table parent ≡ None) → IsParented it parent → ((p : ℕ) → parent ≡ Some p → entry_at own p ≡ Some entry.Reader) → OwnAfter c (on_own (made it parent own) s)
-  own_made c it parent room parented reader = by (nat_eq (live_count own.table) own.table.capacity) refl
+  own_made : (c : Call) (it : Entry) (parent : Option ℕ) → (nat_eq (live_count own.table) own.table.capacity ≡ false → push_refusal own.table parent ≡ None) → IsParented it parent → ((p : ℕ) → parent ≡ Some p → IsUnder it (entry_at own p)) → OwnAfter c (on_own (made it parent own) s)
+  own_made c it parent room parented under = by (nat_eq (live_count own.table) own.table.capacity) refl
     where
       by : (full : Bool) → nat_eq (live_count own.table) own.table.capacity ≡ full → OwnAfter c (on_own (cond full (only_reply (reply.Trap ResourceTableFull) own) (record { reply = reply.Handle (next_number own.table); own = record { table = with_pushed own.table it parent } })) s)
       by true e = own_same c (reply.Trap ResourceTableFull) s refl
-      by false e = (own_pushed own live it parent is (room e) parented reader, refl)
+      by false e = (own_pushed own live it parent is (room e) parented under, refl)
 
   own_room : nat_eq (live_count own.table) own.table.capacity ≡ false → push_refusal own.table None ≡ None
   own_room e = ap (λ full. cond full (Some Full) None) e
 
-  own_orphan : (p : ℕ) → None ≡ Some p → entry_at own p ≡ Some entry.Reader
-  own_orphan p e = absurd (true≢false (sym (ap is_some e)))
+  own_room_under : (n : ℕ) → is_live own.table n ≡ true → nat_eq (live_count own.table) own.table.capacity ≡ false → push_refusal own.table (Some n) ≡ None
+  own_room_under n alive e = cond-true (is_live own.table n) _ _ alive ∙ ap (λ full. cond full (Some Full) None) e
+
+  own_orphan : (it : Entry) (p : ℕ) → None ≡ Some p → IsUnder it (entry_at own p)
+  own_orphan it p e = absurd (true≢false (sym (ap is_some e)))
 
   bytes_live : (c : Call) (it : Result (List ℕ) StreamError) → live_after c (bytes_reply it) live ≡ live
   bytes_live c (Ok bytes) = refl
@@ -543,56 +589,49 @@ module _ (own : Own) (live : FinSet nat_cmp) (is : IsOwn own live) (s : Stream) 
   own_read : (n size : ℕ) (o : Option Entry) → OwnAfter (call.Read n size) (read_at stream_manner o size own s)
   own_read n size None = own_same (call.Read n size) (reply.Trap ResourceNotPresent) s refl
   own_read n size (Some entry.Reader) = own_same (call.Read n size) (bytes_reply (input_read s size)) (after_input_read s size) (bytes_live (call.Read n size) (input_read s size))
-  own_read n size (Some (entry.Polled wait)) = own_same (call.Read n size) (reply.Trap ResourceWrongType) s refl
-  own_read n size (Some (entry.Pollable wait)) = own_same (call.Read n size) (reply.Trap ResourceWrongType) s refl
+  own_read n size (Some other) = own_same (call.Read n size) (reply.Trap ResourceWrongType) s refl
 
   own_skip : (n size : ℕ) (o : Option Entry) → OwnAfter (call.Skip n size) (skip_at stream_manner o size own s)
   own_skip n size None = own_same (call.Skip n size) (reply.Trap ResourceNotPresent) s refl
   own_skip n size (Some entry.Reader) = own_same (call.Skip n size) (count_reply (input_skip s size)) (after_input_read s size) (count_live (call.Skip n size) (input_skip s size))
-  own_skip n size (Some (entry.Polled wait)) = own_same (call.Skip n size) (reply.Trap ResourceWrongType) s refl
-  own_skip n size (Some (entry.Pollable wait)) = own_same (call.Skip n size) (reply.Trap ResourceWrongType) s refl
+  own_skip n size (Some other) = own_same (call.Skip n size) (reply.Trap ResourceWrongType) s refl
 
   own_poll : (n room : ℕ) (o : Option (Row Entry)) → held_at own.table n ≡ o → OwnAfter (call.PollRead n room) (poll_at stream_manner (entry_in o) n room own s)
   own_poll n room None held = own_same (call.PollRead n room) (reply.Trap ResourceNotPresent) s refl
   own_poll n room (Some it) held = by it.entry it.parent held
     where
       by : (it : Entry) (parent : Option ℕ) → held_at own.table n ≡ Some (record { entry = it; parent = parent }) → OwnAfter (call.PollRead n room) (poll_at stream_manner (Some it) n room own s)
-      by entry.Reader parent held = own_same (call.PollRead n room) (reply.Trap ResourceWrongType) s refl
       by (entry.Polled wait) parent held = (
         subst (λ live. IsOwn (with_kept own n (entry.Polled wait)) live) (sym (poll_live (call.PollRead n room) (input_poll_read s room)))
-            (own_kept own live n (entry.Polled wait) (record { entry = entry.Polled wait; parent = parent }) is held (is.parented n (record { entry = entry.Polled wait; parent = parent }) held) (no_reader wait)),
+            (own_kept own live n (entry.Polled wait) (record { entry = entry.Polled wait; parent = parent }) is held (is.parented n (record { entry = entry.Polled wait; parent = parent }) held) (λ o under. under) (polled_alone wait)),
         refl,
       )
-      by (entry.Pollable wait) parent held = own_same (call.PollRead n room) (reply.Trap ResourceWrongType) s refl
+      by other parent held = own_same (call.PollRead n room) (reply.Trap ResourceWrongType) s refl
 
   own_subscribe : (n : ℕ) (o : Option (Row Entry)) → held_at own.table n ≡ o → OwnAfter (call.Subscribe n) (on_own (subscribe_at (entry_in o) n own) s)
   own_subscribe n None held = own_same (call.Subscribe n) (reply.Trap ResourceNotPresent) s refl
   own_subscribe n (Some it) held = by it.entry it.parent held
     where
       by : (it : Entry) (parent : Option ℕ) → held_at own.table n ≡ Some (record { entry = it; parent = parent }) → OwnAfter (call.Subscribe n) (on_own (subscribe_at (Some it) n own) s)
-      by entry.Reader parent held =
-          own_made (call.Subscribe n) (entry.Pollable None) (Some n)
-          (λ e. cond-true (is_live own.table n) _ _ (ap is_some held) ∙ ap (λ full. cond full (Some Full) None) e)
-          tt
-          (λ p e. let same : n ≡ p = cc in ap (entry_at own) (sym same) ∙ ap entry_in held)
-      by (entry.Polled wait) parent held = own_same (call.Subscribe n) (reply.Trap ResourceWrongType) s refl
-      by (entry.Pollable wait) parent held = own_same (call.Subscribe n) (reply.Trap ResourceWrongType) s refl
+      by entry.Reader parent held = own_made (call.Subscribe n) (entry.Pollable None) (Some n) (own_room_under n (ap is_some held)) tt (λ p e. let same : n ≡ p = cc in ap (entry_at own) (sym same) ∙ ap entry_in held)
+      by (entry.Writer to) parent held = own_made (call.Subscribe n) entry.Always (Some n) (own_room_under n (ap is_some held)) tt (λ p e. let same : n ≡ p = cc in (to, ap (entry_at own) (sym same) ∙ ap entry_in held))
+      by other parent held = own_same (call.Subscribe n) (reply.Trap ResourceWrongType) s refl
 
   own_ready : (n : ℕ) (o : Option Entry) → OwnAfter (call.Ready n) (ready_at stream_manner o own s)
   own_ready n None = own_same (call.Ready n) (reply.Trap ResourceNotPresent) s refl
-  own_ready n (Some entry.Reader) = own_same (call.Ready n) (reply.Trap ResourceWrongType) s refl
-  own_ready n (Some (entry.Polled wait)) = own_same (call.Ready n) (reply.Trap ResourceWrongType) s refl
   own_ready n (Some (entry.Pollable wait)) = own_same (call.Ready n) (reply.Truth true) s refl
+  own_ready n (Some entry.Always) = own_same (call.Ready n) (reply.Truth true) s refl
+  own_ready n (Some other) = own_same (call.Ready n) (reply.Trap ResourceWrongType) s refl
 
   own_block : (n : ℕ) (o : Option (Row Entry)) → held_at own.table n ≡ o → OwnAfter (call.Block n) (block_at stream_manner (entry_in o) n own s)
   own_block n None held = own_same (call.Block n) (reply.Trap ResourceNotPresent) s refl
   own_block n (Some it) held = by it.entry it.parent held
     where
       by : (it : Entry) (parent : Option ℕ) → held_at own.table n ≡ Some (record { entry = it; parent = parent }) → OwnAfter (call.Block n) (block_at stream_manner (Some it) n own s)
-      by entry.Reader parent held = own_same (call.Block n) (reply.Trap ResourceWrongType) s refl
-      by (entry.Polled wait) parent held = own_same (call.Block n) (reply.Trap ResourceWrongType) s refl
       by (entry.Pollable wait) parent held =
-          (own_kept own live n (entry.Pollable wait) (record { entry = entry.Pollable wait; parent = parent }) is held (is.parented n (record { entry = entry.Pollable wait; parent = parent }) held) (no_reader_either wait), refl)
+          (own_kept own live n (entry.Pollable wait) (record { entry = entry.Pollable wait; parent = parent }) is held (is.parented n (record { entry = entry.Pollable wait; parent = parent }) held) (λ o under. under) (pollable_alone wait), refl)
+      by entry.Always parent held = own_same (call.Block n) (reply.Truth true) s refl
+      by other parent held = own_same (call.Block n) (reply.Trap ResourceWrongType) s refl
 
   own_drop : (n : ℕ) (o : Option (Row Entry)) → held_at own.table n ≡ o → OwnAfter (call.Drop n) (on_own (drop_at (entry_in o) n own) s)
   own_drop n None held = own_same (call.Drop n) (reply.Trap ResourceNotPresent) s refl
@@ -602,9 +641,18 @@ module _ (own : Own) (live : FinSet nat_cmp) (is : IsOwn own live) (s : Stream) 
       by true e = own_same (call.Drop n) (reply.Trap ResourceHasChildren) s refl
       by false e = (own_dropped own live n it is held e, refl)
 
+  own_refused : (n : ℕ) (it : OutputCall) (o : Option Entry) → OwnAfter (call.OnOutput n it) (on_own (refused o own) s)
+  own_refused n it None = own_same (call.OnOutput n it) (reply.Trap ResourceNotPresent) s refl
+  own_refused n it (Some other) = own_same (call.OnOutput n it) (reply.Trap ResourceWrongType) s refl
+
   own_after : (c : Call) → OwnAfter c (call_rule stream_manner c own s)
-  own_after call.GetStdin = own_made call.GetStdin entry.Reader None own_room tt own_orphan
-  own_after call.AsyncStdin = own_made call.AsyncStdin (entry.Polled None) None own_room tt own_orphan
+  own_after call.GetStdin = own_made call.GetStdin entry.Reader None own_room tt (own_orphan entry.Reader)
+  own_after call.AsyncStdin = own_made call.AsyncStdin (entry.Polled None) None own_room tt (own_orphan (entry.Polled None))
+  own_after call.GetStdout = own_made call.GetStdout (entry.Writer standard.Output) None own_room tt (own_orphan (entry.Writer standard.Output))
+  own_after call.GetStderr = own_made call.GetStderr (entry.Writer standard.Error) None own_room tt (own_orphan (entry.Writer standard.Error))
+  own_after call.AsyncStdout = own_made call.AsyncStdout (entry.PolledWriter standard.Output) None own_room tt (own_orphan (entry.PolledWriter standard.Output))
+  own_after call.AsyncStderr = own_made call.AsyncStderr (entry.PolledWriter standard.Error) None own_room tt (own_orphan (entry.PolledWriter standard.Error))
+  own_after (call.OnOutput n it) = own_refused n it (entry_at own n)
   own_after (call.Read n size) = own_read n size (entry_at own n)
   own_after (call.Skip n size) = own_skip n size (entry_at own n)
   own_after (call.PollRead n room) = own_poll n room (held_at own.table n) refl
@@ -614,6 +662,51 @@ module _ (own : Own) (live : FinSet nat_cmp) (is : IsOwn own live) (s : Stream) 
   own_after (call.Drop n) = own_drop n (held_at own.table n) refl
   own_after (call.Exit status) = own_same (call.Exit status) (reply.Exit (exit_status status)) s refl
   own_after (call.ExitCode code) = own_same (call.ExitCode code) (reply.Exit code) s refl
+
+-- ---- a call on an output
+done_live : (n : ℕ) (it : OutputCall) (done : Result (Unit {0}) StreamError) (live : FinSet nat_cmp) → live_after (call.OnOutput n it) (done_reply done) live ≡ live
+done_live n it (Ok done) live = refl
+done_live n it (Err failure.Closed) live = refl
+done_live n it (Err (failure.LastOperationFailed kind)) live = refl
+done_live n it (Err (failure.Trap text)) live = refl
+done_live n it (Err failure.OutOfMemory) live = refl
+
+counts_live : (n : ℕ) (it : OutputCall) (counts : Result ℕ StreamError) (live : FinSet nat_cmp) → live_after (call.OnOutput n it) (count_reply counts) live ≡ live
+counts_live n it (Ok count) live = refl
+counts_live n it (Err failure.Closed) live = refl
+counts_live n it (Err (failure.LastOperationFailed kind)) live = refl
+counts_live n it (Err (failure.Trap text)) live = refl
+counts_live n it (Err failure.OutOfMemory) live = refl
+
+poll_count_live : (n : ℕ) (it : OutputCall) (counts : Poll ℕ) (live : FinSet nat_cmp) → live_after (call.OnOutput n it) (poll_count_reply counts) live ≡ live
+poll_count_live n it poll.Pending live = refl
+poll_count_live n it (poll.Ready count) live = refl
+poll_count_live n it (poll.Failed kind) live = refl
+
+poll_done_live : (n : ℕ) (it : OutputCall) (done : Poll (Unit {0})) (live : FinSet nat_cmp) → live_after (call.OnOutput n it) (poll_done_reply done) live ≡ live
+poll_done_live n it poll.Pending live = refl
+poll_done_live n it (poll.Ready done) live = refl
+poll_done_live n it (poll.Failed kind) live = refl
+
+sent_live : (n : ℕ) (it : OutputCall) (s : Stream) (live : FinSet nat_cmp) → live_after (call.OnOutput n it) (sent it s).reply live ≡ live
+sent_live n on_output.CheckWrite s live = counts_live n on_output.CheckWrite (output_check_write s) live
+sent_live n (on_output.Write bytes) s live = done_live n (on_output.Write bytes) (output_write s bytes) live
+sent_live n on_output.Flush s live = done_live n on_output.Flush (output_flush s) live
+sent_live n (on_output.PollWrite bytes) s live = poll_count_live n (on_output.PollWrite bytes) (output_poll_write s bytes) live
+sent_live n on_output.PollFlush s live = poll_done_live n on_output.PollFlush (output_poll_flush s) live
+
+-- only a call on an output goes to one
+goes_to : (n : ℕ) (it : OutputCall) (to : Option Standard) (sending : Sending) → option_map (sending_to it) to ≡ Some sending → call.OnOutput n it ≡ call.OnOutput n sending.call
+goes_to n it None sending e = absurd (true≢false (sym (ap is_some e)))
+goes_to n it (Some to) sending e = let same : sending_to it to ≡ sending = cc in ap (λ (sending : Sending). call.OnOutput n sending.call) same
+
+is_on_output : (c : Call) (own : Own) (sending : Sending) → sending_of c own ≡ Some sending → (n : ℕ) × (c ≡ call.OnOutput n sending.call)
+is_on_output (call.OnOutput n it) own sending e = (n, goes_to n it (writer_for it (entry_at own n)) sending e)
+is_on_output other own sending e = absurd (true≢false (sym (ap is_some e)))
+
+asked_other : (shares : Bool) (n : ℕ) (it : OutputCall) (input : List ℕ) (s : Sharing) (g : ℕ) (answer : Reply) (s' : Sharing) → s' ≡ s → AskedRule shares (call.OnOutput n it) input s g answer s'
+asked_other true n it input s g answer s' e = e
+asked_other false n it input s g answer s' e = e
 
 module _ (input front : List ℕ) (shared : Shared) (guests : ℕ → Option Guest) (live : ℕ → FinSet nat_cmp) (told : Told) (g : ℕ) (guest : Guest) (c : Call) (goes_on : guest.ended ≡ false) (there : guests g ≡ Some guest) (is : IsGuest guest (live g)) (owned : (m : ℕ) → OwnedBy (guests m) (live m)) (sound : IsSound shared) (input_is : input ≡ front ++ (shared.held ++ told.left)) where
   abbrev Goes : Answered → Type 0
@@ -661,13 +754,41 @@ module _ (input front : List ℕ) (shared : Shared) (guests : ℕ → Option Gue
         );
       }
 
-  from_next : (reads : Input) (streams : Streams) → guest.settings.input ≡ reads → Goes (answer_from reads c guest shared streams)
+  from_next : (reads : Input) (streams : Streams) → guest.settings.input ≡ reads → Goes (answer_from the_rules reads c guest shared streams)
   from_next from.Shared streams e = shared_next streams (ap is_shared e)
   from_next from.Empty streams e = stream_next none.Closed streams (ap is_shared e)
   from_next from.Closed streams e = stream_next none.Closed streams (ap is_shared e)
   from_next (from.Named name) streams e = stream_next (stream_of name streams) (put_stream name (call_rule stream_manner c guest.own (stream_of name streams)).left streams) (ap is_shared e)
 
-pub call_next : (b : Bool) (c : Call) (input front : List ℕ) (shared : Shared) (guests : ℕ → Option Guest) (live : ℕ → FinSet nat_cmp) (told : Told) (g : ℕ) (guest : Guest) (streams : Streams) → guest.ended ≡ b → guests g ≡ Some guest → IsGuest guest (live g) → ((m : ℕ) → OwnedBy (guests m) (live m)) → IsSound shared → input ≡ front ++ (shared.held ++ told.left) → let done : Answered = answer_by b c guest shared streams in Next input front shared guests live told (λ s s'. EndedRule b c input s g done.reply s') done.shared (at_number guests g (Some done.guest)) told
+  -- a call on an output of the guest
+  output_next : (n : ℕ) (it : OutputCall) (to : Output) (streams : Streams) → c ≡ call.OnOutput n it → Goes (answer_output guest to (sent it (stream_to to streams)) shared streams)
+  output_next n it to streams e =
+      let done : Sent = sent it (stream_to to streams) in
+      let b = ends done.reply in
+      let l = live_after c done.reply (live g) in
+      let same : l ≡ live g = ap (λ c. live_after c done.reply (live g)) e ∙ sent_live n it (stream_to to streams) (live g) in
+      let mid = shown front shared (at_number guests g (Some (with_own guest guest.own))) live told in
+      record {
+        front' = front;
+        live' = at_number live g (cond b empty l);
+        input_is = input_is;
+        sound = sound;
+        owned = owned_put guests live g (Some (ending b guest guest.own)) (cond b empty l) owned (left_owned b guest guest.own l (subst (λ live. IsOwn guest.own live) (sym same) is.own));
+        rule = (
+          mid,
+          subst (λ c. AskedRule ((shown front shared guests live told).shares g) c input (shown front shared guests live told) g done.reply mid) (sym e)
+              (asked_other ((shown front shared guests live told).shares g) n it input (shown front shared guests live told) g done.reply mid (put_same front shared guests live told g guest there)),
+          left_shown b c front shared guests live told g guest guest.own l goes_on,
+        );
+      }
+
+  on_next : (sending : Option Sending) (streams : Streams) → sending_of c guest.own ≡ sending → Goes (answer_on the_rules sending c guest shared streams)
+  on_next None streams e = from_next guest.settings.input streams refl
+  on_next (Some sending) streams e =
+      let on = is_on_output c guest.own sending e in
+      output_next on.0 sending.call (output_of guest.settings sending.to) streams on.1
+
+pub call_next : (b : Bool) (c : Call) (input front : List ℕ) (shared : Shared) (guests : ℕ → Option Guest) (live : ℕ → FinSet nat_cmp) (told : Told) (g : ℕ) (guest : Guest) (streams : Streams) → guest.ended ≡ b → guests g ≡ Some guest → IsGuest guest (live g) → ((m : ℕ) → OwnedBy (guests m) (live m)) → IsSound shared → input ≡ front ++ (shared.held ++ told.left) → let done : Answered = answer_by the_rules b c guest shared streams in Next input front shared guests live told (λ s s'. EndedRule b c input s g done.reply s') done.shared (at_number guests g (Some done.guest)) told
 call_next true c input front shared guests live told g guest streams ended there is owned sound input_is = record {
   front' = front;
   live' = at_number live g (live g);
@@ -677,7 +798,7 @@ call_next true c input front shared guests live told g guest streams ended there
   rule = (refl, (λ i. shown front shared (at_number guests g (Some (with_own guest guest.own))) (λ m. cond_same live m g (live g) refl i) told) ∙ put_same front shared guests live told g guest there);
 }
 call_next false c input front shared guests live told g guest streams ended there is owned sound input_is =
-    from_next input front shared guests live told g guest c ended there is owned sound input_is guest.settings.input streams refl
+    on_next input front shared guests live told g guest c ended there is owned sound input_is (sending_of c guest.own) streams refl
 
 -- ---- captures and deliveries
 -- what a read of a source that tells gives, and what it leaves

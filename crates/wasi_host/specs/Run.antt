@@ -19,7 +19,7 @@ use Rattle.wasi_host.specs.declared.reply.Reply.{Reply}
 use Rattle.wasi_host.specs.declared.reply.Reply.TheVariants as reply
 use Rattle.wasi_host.specs.Reply.{ends}
 
--- what stands at a number: a reader, a polled one with its wait, or a pollable with its reader's number and its wait
+-- what stands at a number that is a matter of the shared input: a reader, a polled one with its wait, or a pollable with its reader's number and its wait
 pub data Standing : Type 0 where
   Reader : Standing
   Polled : Option ℕ → Standing
@@ -233,6 +233,11 @@ CallRule call.AsyncStdin input s g answer s' = MakeRule (is_full s g) (Polled No
 CallRule (call.Read n size) input s g answer s' = ReadAt (s.standing g n) input s size answer s'
 CallRule (call.Skip n size) input s g answer s' = SkipAt (s.standing g n) input s size answer s'
 CallRule (call.PollRead n room) input s g answer s' = PollAt (s.standing g n) input s g n room answer s'
+CallRule call.GetStdout input s g answer s' = OtherRule s s'
+CallRule call.GetStderr input s g answer s' = OtherRule s s'
+CallRule call.AsyncStdout input s g answer s' = OtherRule s s'
+CallRule call.AsyncStderr input s g answer s' = OtherRule s s'
+CallRule (call.OnOutput n it) input s g answer s' = OtherRule s s'
 CallRule (call.Subscribe n) input s g answer s' = SubscribeAt (s.standing g n) s g n answer s'
 CallRule (call.Ready n) input s g answer s' = ReadyAt (s.standing g n) s answer s'
 CallRule (call.Block n) input s g answer s' = BlockAt (s.standing g n) s g n answer s'
@@ -306,7 +311,12 @@ is_shared (from.Named name) = false
 abbrev pub Rule : List ℕ → Sharing → Line → Reply → Sharing → Type 0
 Rule input s (line.Pipe name bytes) answer s' = (answer ≡ reply.Ok) × (s' ≡ s)
 Rule input s (line.InFile name bytes plan) answer s' = (answer ≡ reply.Ok) × (s' ≡ s)
+Rule input s (line.OutPipe name capacity) answer s' = (answer ≡ reply.Ok) × (s' ≡ s)
+Rule input s (line.OutFile name room plan) answer s' = (answer ≡ reply.Ok) × (s' ≡ s)
+Rule input s (line.Stdio name room plan) answer s' = (answer ≡ reply.Ok) × (s' ≡ s)
 Rule input s (line.Guest g reads) answer s' = (answer ≡ reply.Ok) × (s' ≡ record s { shares = at_number s.shares g (is_shared reads) })
+Rule input s (line.Stdout g it) answer s' = (answer ≡ reply.Ok) × (s' ≡ s)
+Rule input s (line.Stderr g it) answer s' = (answer ≡ reply.Ok) × (s' ≡ s)
 Rule input s (line.Capacity g capacity) answer s' = (answer ≡ reply.Ok) × (s' ≡ record s { capacity = at_number s.capacity g capacity })
 Rule input s (line.Call g c) answer s' = EndedRule (s.ended g) c input s g answer s'
 Rule input s line.Capture answer s' = CaptureRule (size_captured s.mode s.captured) s answer s'

@@ -1,7 +1,6 @@
 -- What a host shows of the shared input, and what follows where somebody asks for bytes.
 use Rattle.std.proofs.Common.{◌≡◌, ℕ, ◌+◌, ◌-◌, ◌<◌, ◌≤◌, min, max, Bool, true, false, cond, List, [], ◌∷◌, ◌++◌, length, get_or, set, take, drop, Option, Some, None, refl, ap, arith, ◌∙◌, sym, subst, append_assoc, take-append-drop}
 use Rattle.std.specs.Prelude.{nat_eq}
-use Rattle.std.specs.Option.{option_map}
 use Rattle.std.specs.Ordering.{nat_cmp}
 use Rattle.std.specs.FinMap as map
 use Rattle.std.specs.FinSet.{FinSet}
@@ -27,16 +26,19 @@ abbrev pub parent_or : Option ℕ → ℕ
 parent_or None = 0
 parent_or (Some parent) = parent
 
-abbrev pub standing_by : Entry → Option ℕ → Standing
-standing_by entry.Reader parent = run.Reader
-standing_by (entry.Polled wait) parent = run.Polled wait
-standing_by (entry.Pollable wait) parent = run.Pollable (parent_or parent) wait
+-- entries on outputs are no matter of the shared input
+abbrev pub standing_by : Entry → Option ℕ → Option Standing
+standing_by entry.Reader parent = Some run.Reader
+standing_by (entry.Polled wait) parent = Some (run.Polled wait)
+standing_by (entry.Pollable wait) parent = Some (run.Pollable (parent_or parent) wait)
+standing_by other parent = None
 
-abbrev pub standing_of : Row Entry → Standing
-standing_of held = standing_by held.entry held.parent
+abbrev pub standing_at : Option (Row Entry) → Option Standing
+standing_at None = None
+standing_at (Some held) = standing_by held.entry held.parent
 
 abbrev pub standing_in : Own → ℕ → Option Standing
-standing_in own n = option_map standing_of (held_at own.table n)
+standing_in own n = standing_at (held_at own.table n)
 
 -- entries of a guest that reads something else are no matter of the shared input
 abbrev pub standing_where : Bool → Own → ℕ → Option Standing
@@ -136,7 +138,7 @@ put_none front shared guests live told n k guest own e sharing is same = put_own
 
 -- nothing stands in a new table
 nothing_in : (capacity : ℕ) → standing_in (record { table = new_table capacity }) ≡ (λ n. None)
-nothing_in capacity = λ i n. option_map standing_of (map.get-empty {X = Row Entry} nat_cmp n i)
+nothing_in capacity = λ i n. standing_at (map.get-empty {X = Row Entry} nat_cmp n i)
 
 pub nothing_stands : (b : Bool) (capacity : ℕ) → standing_where b (record { table = new_table capacity }) ≡ (λ n. None)
 nothing_stands true capacity = nothing_in capacity

@@ -4,14 +4,19 @@
 
 mod entry;
 mod laws;
+mod outlet;
 mod piece;
 mod reply;
 mod stream;
 mod text;
 
-pub use entry::Entry;
-pub use laws::{a_run_of_the_host, calls_stay_in_reach, lines_fix_replies};
+pub use entry::{Entry, Standard};
+pub use laws::{
+    a_run_of_the_host, calls_stay_in_reach, lines_fix_replies, outputs_fill_in_order,
+    outputs_keep_what_they_took, what_is_put_back,
+};
+pub use outlet::{FileOutput, ProcessOutput};
 pub use piece::Piece;
 pub use reply::Reply;
 pub use stream::{FileInput, Stream};
-pub use text::push_line;
+pub use text::{push_line, push_output};

@@ -12,7 +12,7 @@ pub enum Reply {
     Handle(u32),
     /// The bytes that were handed out.
     Bytes(Piece),
-    /// How many bytes were skipped.
+    /// How many bytes were skipped, went out, or may be written at once.
     Count(u64),
     /// Whether a pollable is ready.
     Truth(bool),
@@ -28,9 +28,9 @@ pub enum Reply {
     End,
     /// A delivery of a fault.
     Fault(IoKind),
-    /// The input is at its end.
+    /// The stream is at its end.
     Closed,
-    /// The input failed, and its one reader is told.
+    /// The stream failed; of the shared input one reader is told.
     Failed(IoKind),
     /// The guest broke a rule, and ends.
     Trap(TrapText),

@@ -1,12 +1,15 @@
 ghost use Rattle.std.specs.Prelude.{◌≡◌, IfOk, OnErr};
+ghost use Rattle.std.specs.Option.{option_copied};
 ghost use Rattle.wasi_streams.specs.Answers.{OnNoMemory, UnlessNoMemory};
 ghost use Rattle.wasi_streams.specs.Files.{file_read, after_file_read, file_skip, file_poll_read};
+ghost use Rattle.wasi_host.specs.Streams.{taken_of};
 
+use crate::outlet::{FileOutput, ProcessOutput};
 use bytes::Bytes;
 use std::alloc::Global;
 use std::marker::Model;
 use wasi_base::{MemSource, OutOfMemory, Polled, StreamError};
-use wasi_streams::{InputFile, InputStream, MemoryInputPipe};
+use wasi_streams::{InputFile, InputStream, MemoryInputPipe, MemoryOutputPipe};
 
 /// A file that is read, in memory. Contracts see what its source tells.
 #[derive(Drop)]
@@ -53,13 +56,35 @@ impl FileInput {
     }
 }
 
-/// What guests read that is not the shared input.
+/// What guests read that is not the shared input, and what they write to.
 #[derive(Drop)]
 pub enum Stream {
-    /// An input at its end, which no line declares.
+    /// An input at its end, or an output that takes nothing, which no line declares.
     Closed,
+    /// An output that takes everything and keeps nothing, which no line declares.
+    Sink,
     /// `pipe`: the bytes that are left.
     Pipe(MemoryInputPipe),
     /// `infile`: a source with a plan.
     InFile(FileInput),
+    /// `outpipe`: what it took, and the room left.
+    OutPipe(MemoryOutputPipe),
+    /// `outfile`: a sink with a plan.
+    OutFile(FileOutput),
+    /// `stdio`: a sink with a plan, as an output of the host's process.
+    Stdio(ProcessOutput),
+}
+
+impl Stream {
+    /// All bytes that a declared output took, in order.
+    pub fn taken(&self) -> Option<&[u8]>
+        ensures { option_copied result ≡ taken_of self.now }
+    {
+        match self {
+            Stream::OutPipe(pipe) => Some(pipe.contents()),
+            Stream::OutFile(file) => Some(file.taken()),
+            Stream::Stdio(output) => Some(output.taken()),
+            Stream::Closed | Stream::Sink | Stream::Pipe(_) | Stream::InFile(_) => None,
+        }
+    }
 }

@@ -1,7 +1,9 @@
 ghost use Rattle.std.specs.Prelude.{◌≡◌, OnOk, OnErr, ◌++◌, codes, length, take};
 ghost use Rattle.std.specs.Fmt.{decimal};
+ghost use Rattle.hex.specs.Hex.{encode_lower};
 ghost use Rattle.wasi_base.specs.TrapText.{trap_text};
 ghost use Rattle.wasi_host.specs.Reply.{hex_of, text_of, reply_line};
+ghost use Rattle.wasi_host.specs.Transcript.{output_line};
 
 use crate::Reply;
 use itoa::Buffer;
@@ -27,7 +29,22 @@ fn push_words(text: &mut Vec<u8>, word: &[u8], more: &[u8]) -> Result<(), OutOfM
     Ok(())
 }
 
-fn push_hex(alloc: Global, text: &mut Vec<u8>, word: &[u8], bytes: &[u8]) -> Result<(), OutOfMemory>
+// lower-case digits, two for each byte
+fn push_digits(text: &mut Vec<u8>, bytes: &[u8]) -> Result<(), OutOfMemory>
+    ensures ok { OnOk result (text.new.items ≡ text.old.items ++ encode_lower bytes.now) }
+    ensures err { OnErr result (text.new.items ≡ text.old.items) }
+{
+    let before = text.len();
+    let digits = bytes.len().checked_mul(2).ok_or(OutOfMemory)?;
+    let after = before.checked_add(digits).ok_or(OutOfMemory)?;
+    text.resize(after, 0)?;
+    match hex::encode_to_slice(bytes, &mut text[before..]) {
+        Ok(()) => Ok(()),
+        Err(_) => unreachable!(),
+    }
+}
+
+fn push_hex(text: &mut Vec<u8>, word: &[u8], bytes: &[u8]) -> Result<(), OutOfMemory>
     ensures ok { OnOk result (text.new.items ≡ text.old.items ++ (word.now ++ hex_of bytes.now)) }
     ensures err { OnErr result (take (length text.old.items) text.new.items ≡ text.old.items) }
 {
@@ -35,8 +52,7 @@ fn push_hex(alloc: Global, text: &mut Vec<u8>, word: &[u8], bytes: &[u8]) -> Res
     if bytes.is_empty() {
         text.extend_from_slice(b"-")?;
     } else {
-        let digits = hex::encode(alloc, bytes)?;
-        text.extend_from_slice(digits.as_bytes())?;
+        push_digits(text, bytes)?;
     }
     Ok(())
 }
@@ -56,7 +72,7 @@ fn push_text(alloc: Global, text: &mut Vec<u8>, reply: &Reply) -> Result<(), Out
     match reply {
         Reply::Ok => push_words(text, b"ok", b""),
         Reply::Handle(number) => push_number(text, b"handle ", u64::from(*number)),
-        Reply::Bytes(piece) => push_hex(alloc, text, b"bytes ", piece.as_slice()),
+        Reply::Bytes(piece) => push_hex(text, b"bytes ", piece.as_slice()),
         Reply::Count(count) => push_number(text, b"count ", *count),
         Reply::Truth(true) => push_words(text, b"true", b""),
         Reply::Truth(false) => push_words(text, b"false", b""),
@@ -80,13 +96,24 @@ pub fn push_line(alloc: Global, text: &mut Vec<u8>, reply: &Reply) -> Result<(),
     ensures err { OnErr result (text.new.items ≡ text.old.items) }
 {
     let before = text.len();
-    match push_text_line(alloc, text, reply) {
-        Ok(()) => Ok(()),
-        Err(error) => {
-            text.truncate(before);
-            Err(error)
-        }
+    let answer = push_text_line(alloc, text, reply);
+    whole_or_none(text, before, answer)
+}
+
+// Takes back what was appended since there were so many bytes, where memory was short.
+fn whole_or_none(
+    text: &mut Vec<u8>,
+    before: usize,
+    answer: Result<(), OutOfMemory>,
+) -> Result<(), OutOfMemory>
+    ensures same { result ≡ answer }
+    ensures ok { OnOk answer (text.new.items ≡ text.old.items) }
+    ensures err { OnErr answer (text.new.items ≡ take before text.old.items) }
+{
+    if answer.is_err() {
+        text.truncate(before);
     }
+    answer
 }
 
 // want of memory may leave a part of the line
@@ -96,5 +123,27 @@ fn push_text_line(alloc: Global, text: &mut Vec<u8>, reply: &Reply) -> Result<()
 {
     push_text(alloc, text, reply)?;
     text.extend_from_slice(b"\n")?;
+    Ok(())
+}
+
+/// Appends the line of an output: its name, and the bytes that it took. Want of memory leaves the
+/// text as it was.
+pub fn push_output(text: &mut Vec<u8>, name: &[u8], taken: &[u8]) -> Result<(), OutOfMemory>
+    ensures ok { OnOk result (text.new.items ≡ text.old.items ++ output_line (name.now, taken.now)) }
+    ensures err { OnErr result (text.new.items ≡ text.old.items) }
+{
+    let before = text.len();
+    let answer = push_output_line(text, name, taken);
+    whole_or_none(text, before, answer)
+}
+
+// want of memory may leave a part of the line
+fn push_output_line(text: &mut Vec<u8>, name: &[u8], taken: &[u8]) -> Result<(), OutOfMemory>
+    ensures ok { OnOk result (text.new.items ≡ text.old.items ++ output_line (name.now, taken.now)) }
+    ensures err { OnErr result (take (length text.old.items) text.new.items ≡ text.old.items) }
+{
+    push_words(text, b"output ", name)?;
+    push_hex(text, b" ", taken)?;
+    text.push(b'\n')?;
     Ok(())
 }

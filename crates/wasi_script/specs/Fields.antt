@@ -30,6 +30,10 @@ positive_below limit text = option_and_then (λ number. cond (nat_le 1 number) (
 abbrev pub capacity_of : List ℕ → Option ℕ
 capacity_of = positive_below 65537
 
+-- the room of an output, at most 1048576 bytes
+abbrev pub room_of : List ℕ → Option ℕ
+room_of = number_below 1048577
+
 -- how often a byte is repeated, from 1 to 1048576 times
 abbrev pub count_of : List ℕ → Option ℕ
 count_of = positive_below 1048577

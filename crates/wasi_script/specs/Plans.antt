@@ -5,6 +5,8 @@ use Rattle.std.specs.Option.{option_and_then, option_map}
 use Rattle.std.specs.Str.{bytes_eq}
 use Rattle.wasi_base.specs.declared.source.Plan.{Plan}
 use Rattle.wasi_base.specs.declared.source.Plan.TheVariants.{Take, Fail}
+use Rattle.wasi_base.specs.declared.sink.SinkPlan.{SinkPlan}
+use Rattle.wasi_base.specs.declared.sink.SinkPlan.TheVariants as sink
 use Rattle.wasi_base.specs.IoKind.{kind_named}
 use Rattle.wasi_script.specs.Fields.{number_of}
 
@@ -12,6 +14,13 @@ use Rattle.wasi_script.specs.Fields.{number_of}
 abbrev pub take_or_fail : List ℕ → Option Plan
 take_or_fail [] = None
 take_or_fail (letter ∷ rest) = cond (nat_eq letter 116) (option_map Take (number_of rest)) (cond (nat_eq letter 102) (option_map Fail (kind_named rest)) None)
+
+-- the same of a write, and `lKIND` fails a flush
+abbrev pub take_or_fail_or_flush_fail : List ℕ → Option SinkPlan
+take_or_fail_or_flush_fail [] = None
+take_or_fail_or_flush_fail (letter ∷ rest) =
+    cond (nat_eq letter 116) (option_map sink.Take (number_of rest))
+    (cond (nat_eq letter 102) (option_map sink.Fail (kind_named rest)) (cond (nat_eq letter 108) (option_map sink.FlushFail (kind_named rest)) None))
 
 -- what each of some texts stands for, if each stands for something
 abbrev pub each_of : {A : Type 0} → (List ℕ → Option A) → List (List ℕ) → Option (List A)
@@ -28,3 +37,6 @@ plan_of meaning text = cond (bytes_eq text (codes "-")) (Some []) (items_of mean
 
 abbrev pub read_plan_of : List ℕ → Option (List Plan)
 read_plan_of = plan_of take_or_fail
+
+abbrev pub write_plan_of : List ℕ → Option (List SinkPlan)
+write_plan_of = plan_of take_or_fail_or_flush_fail

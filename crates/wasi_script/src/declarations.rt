@@ -1,7 +1,7 @@
 ghost use Rattle.std.specs.Prelude.{◌≡◌, true, OnOk, OnErr};
-ghost use Rattle.wasi_script.specs.Grammar.{may_stand, may_declare, is_input, input_stands, names_after, no_names};
+ghost use Rattle.wasi_script.specs.Grammar.{may_stand, may_declare, may_set_up, is_input, input_stands, is_output, output_stands, names_after, no_names};
 
-use crate::lines::{Input, Line};
+use crate::lines::{Input, Line, Output};
 use crate::name::Name;
 use crate::streams::{Direction, Streams};
 use std::alloc::Global;
@@ -37,15 +37,26 @@ impl Declarations {
                 *guest < 64 && (!self.declared[*guest as usize] && self.allow_input(input))
             }
             Line::Capacity { guest, capacity } => {
-                (1 <= *capacity && *capacity <= 65536)
-                    && (*guest < 64
-                        && self.declared[*guest as usize]
-                        && !self.called[*guest as usize])
+                (1 <= *capacity && *capacity <= 65536) && self.allow_set_up(*guest)
             }
-            Line::Pipe { name, .. } | Line::InFile { name, .. } => self.allow_name(name),
+            Line::Stdout { guest, output } | Line::Stderr { guest, output } => {
+                self.allow_set_up(*guest) && self.allow_output(output)
+            }
+            Line::Pipe { name, .. }
+            | Line::InFile { name, .. }
+            | Line::OutPipe { name, .. }
+            | Line::OutFile { name, .. }
+            | Line::Stdio { name, .. } => self.allow_name(name),
             Line::Call { guest, call: _ } => *guest < 64 && self.declared[*guest as usize],
             Line::Capture | Line::Deliver => true,
         }
+    }
+
+    // Whether lines may say more of a guest.
+    fn allow_set_up(&self, guest: u32) -> bool
+        ensures { result ≡ may_set_up (names_in self.now) guest }
+    {
+        guest < 64 && (self.declared[guest as usize] && !self.called[guest as usize])
     }
 
     // Whether a stream may be declared under a name.
@@ -74,6 +85,25 @@ impl Declarations {
         }
     }
 
+    // Whether a guest may have this output.
+    fn allow_output(&self, output: &Output) -> bool
+        ensures { result ≡ output_stands (names_in self.now) output.now }
+    {
+        match output {
+            Output::Empty | Output::Sink | Output::Closed => true,
+            Output::Named(name) => self.has_output(name),
+        }
+    }
+
+    fn has_output(&self, name: &Name) -> bool
+        ensures { result ≡ is_output (names_in self.now) name.now }
+    {
+        match self.streams.direction(name.as_bytes()) {
+            Some(Direction::Outward) => true,
+            Some(Direction::Inward) | None => false,
+        }
+    }
+
     /// Takes down what a line declares, and whose call it is.
     pub fn declare(&mut self, alloc: Global, line: &Line) -> Result<(), OutOfMemory>
         requires { may_stand (names_in self.old) line.now ≡ true }
@@ -86,7 +116,14 @@ impl Declarations {
             Line::Pipe { name, .. } | Line::InFile { name, .. } => {
                 return self.streams.add(alloc, name.as_bytes(), Direction::Inward);
             }
-            Line::Capacity { .. } | Line::Capture | Line::Deliver => {}
+            Line::OutPipe { name, .. } | Line::OutFile { name, .. } | Line::Stdio { name, .. } => {
+                return self.streams.add(alloc, name.as_bytes(), Direction::Outward);
+            }
+            Line::Stdout { .. }
+            | Line::Stderr { .. }
+            | Line::Capacity { .. }
+            | Line::Capture
+            | Line::Deliver => {}
         }
         Ok(())
     }

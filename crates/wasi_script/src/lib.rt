@@ -14,10 +14,10 @@ mod refusal;
 mod streams;
 
 pub use bytes::ByteString;
-pub use lines::{Call, ExitStatus, Input, Line};
+pub use lines::{Call, ExitStatus, Input, Line, Output, OutputCall};
 pub use name::Name;
 pub use parse::{Script, ScriptError, parse_script};
-pub use plan::ReadPlan;
+pub use plan::{ReadPlan, WritePlan};
 pub use streams::Direction;
 
 #[cfg(test)]

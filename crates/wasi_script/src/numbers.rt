@@ -1,7 +1,7 @@
 ghost use Rattle.std.specs.Prelude.{◌≡◌};
 ghost use Rattle.std.specs.List.{list_all};
 ghost use Rattle.std.specs.Char.{is_ascii_digit};
-ghost use Rattle.wasi_script.specs.Fields.{number_of, guest_of, capacity_of, count_of, exit_code_of};
+ghost use Rattle.wasi_script.specs.Fields.{number_of, guest_of, capacity_of, room_of, count_of, exit_code_of};
 
 /// A number of 1 to 20 decimal digits that a u64 holds. Leading zeros are fine.
 pub fn parse_number(text: &[u8]) -> Option<u64>
@@ -41,6 +41,18 @@ pub fn parse_capacity(text: &[u8]) -> Option<u32>
     let number = parse_number(text)?;
     if 1 <= number && number <= 65536 {
         Some(number as u32)
+    } else {
+        None
+    }
+}
+
+/// The room of an output, from 0 to 1048576 bytes.
+pub fn parse_room(text: &[u8]) -> Option<u64>
+    ensures { result ≡ room_of text.now }
+{
+    let number = parse_number(text)?;
+    if number <= 1048576 {
+        Some(number)
     } else {
         None
     }

@@ -1,5 +1,5 @@
 ghost use Rattle.std.specs.Prelude.{◌≡◌, ℕ, List, Option, IfOk};
-ghost use Rattle.wasi_script.specs.Plans.{plan_of, read_plan_of, take_or_fail};
+ghost use Rattle.wasi_script.specs.Plans.{plan_of, read_plan_of, write_plan_of, take_or_fail, take_or_fail_or_flush_fail};
 ghost use Rattle.wasi_script.specs.Reads.{Reads, ReadsItems};
 
 use crate::numbers::parse_number;
@@ -7,7 +7,7 @@ use crate::parts::{Parts, is};
 use crate::refusal::Refusal;
 use std::alloc::Global;
 use std::marker::Model;
-use wasi_base::{IoKind, OutOfMemory, Plan};
+use wasi_base::{IoKind, OutOfMemory, Plan, SinkPlan};
 
 /// What an input's source does at each read: its plan, of at most 1024 items.
 #[derive(Drop)]
@@ -42,6 +42,39 @@ impl ReadPlan {
     }
 }
 
+/// What an output's sink does at each write and flush: its plan, of at most 1024 items.
+#[derive(Drop)]
+pub struct WritePlan {
+    items: Vec<SinkPlan>,
+}
+
+impl Model for WritePlan {
+    ghost use Rattle.std.specs.Prelude.{List};
+    ghost use Rattle.wasi_base.specs.declared.sink.SinkPlan.{SinkPlan};
+
+    ghost Value = { List SinkPlan };
+
+    ghost view = { λ plan. plan.items.items };
+}
+
+impl WritePlan {
+    /// The plan's items, in order.
+    pub fn to_vec(&self, alloc: Global) -> Result<Vec<SinkPlan>, OutOfMemory>
+        ensures { IfOk result (λ items. items.items ≡ self.now) }
+    {
+        let items = Vec::from_slice(alloc, self.items.as_slice())?;
+        Ok(items)
+    }
+
+    /// The plan that a text stands for.
+    pub(crate) fn read(alloc: Global, text: &[u8]) -> Result<WritePlan, Refusal>
+        ensures { Reads result (write_plan_of text.now) }
+    {
+        let items = read_items(alloc, text)?;
+        Ok(WritePlan { items })
+    }
+}
+
 /// An item of a plan, which stands between commas.
 trait Item: Sized + Drop {
     /// What a text stands for.
@@ -59,6 +92,20 @@ impl Item for Plan {
         match text {
             [b't', count @ ..] => Some(Plan::Take(parse_number(count)?)),
             [b'f', kind @ ..] => Some(Plan::Fail(IoKind::of_name(kind)?)),
+            _ => None,
+        }
+    }
+}
+
+impl Item for SinkPlan {
+    ghost meaning = { take_or_fail_or_flush_fail };
+
+    // `tNUM`, `fKIND` or `lKIND`
+    fn read(text: &[u8]) -> Option<SinkPlan> {
+        match text {
+            [b't', count @ ..] => Some(SinkPlan::Take(parse_number(count)?)),
+            [b'f', kind @ ..] => Some(SinkPlan::Fail(IoKind::of_name(kind)?)),
+            [b'l', kind @ ..] => Some(SinkPlan::FlushFail(IoKind::of_name(kind)?)),
             _ => None,
         }
     }

@@ -9,7 +9,7 @@ use Rattle.std.specs.Option.{option_map}
 use Rattle.wasi_stdin.specs.Shared.{Shared}
 use Rattle.wasi_script.specs.declared.lines.Call.{Call}
 use Rattle.wasi_host.specs.declared.reply.Reply.{Reply}
-use Rattle.wasi_host.specs.Host.{Guest, Streams, Host, Answered, direction_of, names_of, with_capacity, answer_to, answer_in, guest_of, put_answered}
+use Rattle.wasi_host.specs.Host.{Guest, Streams, Host, Answered, direction_of, names_of, with_capacity, answer_to, answer_in, called_in, the_rules, guest_of, put_answered}
 
 -- a guest that is there
 there : (guests : List (Option Guest)) (n : ℕ) (it : Option Guest) → n < length guests → it ≡ get_or guests n it → get_or guests n None ≡ it
@@ -17,7 +17,7 @@ there [] n it within is = absurd (omega arith)
 there (x ∷ guests) zero it within is = sym is
 there (x ∷ guests) (suc n) it within is = there guests n it (omega arith) is
 
-pub called_done : {E : Type 0} (result : Result Reply E) (host : Host) (after : Shared) (streams : Streams) (n : ℕ) (c : Call) (guest left : Guest) (it : Option Guest) → n < length host.guests → it ≡ get_or host.guests n it → it ≡ Some guest → IfOk result (λ answer. ◌≡◌ {A = Answered} (record { reply = answer; guest = left; shared = after; streams = streams }) (answer_to c guest host.shared host.streams)) → IfOk result (λ answer. answer ≡ (answer_in c (guest_of host n) host.shared host.streams).reply) × OnOk result (◌≡◌ {A = Host} (record { shared = after; guests = set host.guests n (Some left); streams = streams }) (put_answered host n (answer_in c (guest_of host n) host.shared host.streams)))
+pub called_done : {E : Type 0} (result : Result Reply E) (host : Host) (after : Shared) (streams : Streams) (n : ℕ) (c : Call) (guest left : Guest) (it : Option Guest) → n < length host.guests → it ≡ get_or host.guests n it → it ≡ Some guest → IfOk result (λ answer. ◌≡◌ {A = Answered} (record { reply = answer; guest = left; shared = after; streams = streams }) (answer_to the_rules c guest host.shared host.streams)) → IfOk result (λ answer. answer ≡ (answer_in the_rules c (guest_of host n) host.shared host.streams).reply) × OnOk result (◌≡◌ {A = Host} (record { shared = after; guests = set host.guests n (Some left); streams = streams }) (called_in the_rules c n host))
 called_done (Err e) host after streams n c guest left it within is some done = (tt, tt)
 called_done (Ok answer) host after streams n c guest left it within is some done =
     rw (there host.guests n it within is, some) (ap (λ (done : Answered). done.reply) done, ap (λ (done : Answered). put_answered host n done) done)

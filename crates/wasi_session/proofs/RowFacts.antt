@@ -4,11 +4,9 @@ use Rattle.std.specs.Prelude.{IfOk, OnErr, is_some, Vec}
 use Rattle.std.specs.Map.{lookup, set_value}
 use Rattle.std.specs.Str.{bytes_eq}
 use Rattle.indexmap.specs.IndexMap.{insert_entry}
-use Rattle.wasi_script.specs.declared.lines.Call.{Call}
 use Rattle.wasi_host.specs.declared.reply.Reply.{Reply}
 use Rattle.wasi_host.specs.declared.stream.Stream.{Stream}
 use Rattle.wasi_host.specs.declared.stream.Stream.TheVariants.{Closed}
-use Rattle.wasi_host.specs.Calls.{Own, stream_manner, call_rule}
 use Rattle.wasi_host.specs.Host.{Streams, or_closed, stream_of, put_stream}
 use Rattle.wasi_session.specs.Rows.{rows_of}
 use Rattle.wasi_session.specs.declared.state.State.{State}
@@ -65,9 +63,9 @@ stream_there es now name it is found = ap (λ rows. stream_of name rows) (sym is
 pub stream_put : {A : Type 0} (es es' : List (Vec ℕ A × Stream)) (now : Streams) (name : List ℕ) (it : Stream) → rows_of es ≡ now → es' ≡ set_value (λ (key : Vec ℕ A). bytes_eq name key.items) es it → rows_of es' ≡ put_stream name it now
 stream_put es es' now name it is after = ap rows_of after ∙ rows_set name es it ∙ ap (λ rows. put_stream name it rows) is
 
-pub left_there : {E : Type 0} (result : Result Reply E) (now rows : Streams) (name : List ℕ) (c : Call) (own : Own) (it after : Stream) → stream_of name now ≡ it → rows ≡ put_stream name after now → IfOk result (λ reply. after ≡ (call_rule stream_manner c own it).left) → IfOk result (λ reply. rows ≡ put_stream name (call_rule stream_manner c own (stream_of name now)).left now)
-left_there (Err error) now rows name c own it after there is left = tt
-left_there (Ok answer) now rows name c own it after there is left = rw there (is ∙ ap (λ it. put_stream name it now) left)
+pub left_there : {E : Type 0} (result : Result Reply E) (now rows : Streams) (name : List ℕ) (leaves : Stream → Stream) (it after : Stream) → stream_of name now ≡ it → rows ≡ put_stream name after now → IfOk result (λ reply. after ≡ leaves it) → IfOk result (λ reply. rows ≡ put_stream name (leaves (stream_of name now)) now)
+left_there (Err error) now rows name leaves it after there is left = tt
+left_there (Ok answer) now rows name leaves it after there is left = rw there (is ∙ ap (λ it. put_stream name it now) left)
 
 pub err_there : {E A : Type 0} (result : Result Reply E) (es es' : List (Vec ℕ A × Stream)) (now : Streams) (name : List ℕ) (before after : Stream) (old new : State) → rows_of es ≡ now → Some before ≡ lookup (λ (key : Vec ℕ A). bytes_eq name key.items) es → es' ≡ set_value (λ (key : Vec ℕ A). bytes_eq name key.items) es after → OnErr result ((new ≡ old) × (after ≡ before)) → OnErr result ((rows_of es' ≡ now) × (new ≡ old))
 err_there (Ok answer) es es' now name before after old new is found put same = tt

@@ -1,5 +1,6 @@
 ghost use Rattle.std.specs.Prelude.{◌≡◌, IfOk, OnErr};
 
+use crate::answers::told_count;
 use crate::room::room_of;
 use bytes::Bytes;
 use std::alloc::Global;
@@ -102,9 +103,13 @@ impl StandardInput for Stream {
 
     fn read(&mut self, alloc: Global, size: u64) -> Result<Reply, OutOfMemory> {
         let answer = match self {
-            Stream::Closed => Err(StreamError::Closed),
             Stream::Pipe(pipe) => pipe.read(alloc, size),
             Stream::InFile(file) => file.read(alloc, size),
+            Stream::Closed
+            | Stream::Sink
+            | Stream::OutPipe(_)
+            | Stream::OutFile(_)
+            | Stream::Stdio(_) => Err(StreamError::Closed),
         };
         match answer {
             Ok(bytes) => Ok(Reply::Bytes(Piece::shared(bytes))),
@@ -117,17 +122,15 @@ impl StandardInput for Stream {
 
     fn skip(&mut self, size: u64) -> Reply {
         let answer = match self {
-            Stream::Closed => Err(StreamError::Closed),
             Stream::Pipe(pipe) => pipe.skip(size),
             Stream::InFile(file) => file.skip(size),
+            Stream::Closed
+            | Stream::Sink
+            | Stream::OutPipe(_)
+            | Stream::OutFile(_)
+            | Stream::Stdio(_) => Err(StreamError::Closed),
         };
-        match answer {
-            Ok(count) => Reply::Count(count),
-            Err(StreamError::Closed) => Reply::Closed,
-            Err(StreamError::LastOperationFailed(kind)) => Reply::Failed(kind),
-            Err(StreamError::Trap(text)) => Reply::Trap(text),
-            Err(StreamError::OutOfMemory) => Reply::Pending,
-        }
+        told_count(answer)
     }
 
     fn poll_read(
@@ -138,9 +141,13 @@ impl StandardInput for Stream {
     ) -> Result<Reply, OutOfMemory> {
         let _ = &wait;
         let answer = match self {
-            Stream::Closed => Ok(Polled::Ready(Bytes::new())),
             Stream::Pipe(pipe) => pipe.poll_read(room),
             Stream::InFile(file) => file.poll_read(alloc, room),
+            Stream::Closed
+            | Stream::Sink
+            | Stream::OutPipe(_)
+            | Stream::OutFile(_)
+            | Stream::Stdio(_) => Ok(Polled::Ready(Bytes::new())),
         };
         match answer {
             Ok(Polled::Pending) => Ok(Reply::Pending),

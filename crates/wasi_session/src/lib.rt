@@ -1,8 +1,10 @@
 //! Sessions of guests: the host step by step, a whole script, and all that the program does.
 #![tactic(auto)]
 
+mod answers;
 mod guest;
 mod input;
+mod output;
 mod own;
 mod program;
 mod read;

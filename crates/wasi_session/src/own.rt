@@ -1,14 +1,15 @@
-ghost use Rattle.std.specs.Prelude.{◌≡◌, ◌≤◌, IfOk, OnErr, Some, None, MatchOption, MatchResult, Option, ℕ};
-ghost use Rattle.wasi_table.specs.Table.{new_table, push_refusal};
-ghost use Rattle.wasi_host.specs.Calls.{Own, made, entry_at, read_at, skip_at, poll_at, subscribe_at, ready_at, block_at, drop_at};
-ghost use Rattle.wasi_session.specs.Refusals.{refusal_of};
+ghost use Rattle.std.specs.Prelude.{◌≡◌, ◌≤◌, IfOk, OnErr, Some, None, MatchOption, MatchResult, Option, ℕ, true};
+ghost use Rattle.wasi_table.specs.Table.{new_table, push_refusal, is_live};
+ghost use Rattle.wasi_host.specs.Calls.{Own, made, refused, entry_at, read_at, skip_at, poll_at, subscribe_at, ready_at, block_at, drop_at, writer_at, polled_writer_at, writer_for};
+ghost use Rattle.wasi_session.specs.Refusals.{refusal_of, is_always};
 
 use crate::input::StandardInput;
 use crate::waits::{blocking, polling};
 use std::alloc::Global;
 use std::marker::Model;
 use wasi_base::{OutOfMemory, TrapText};
-use wasi_host::{Entry, Reply};
+use wasi_host::{Entry, Reply, Standard};
+use wasi_script::OutputCall;
 use wasi_stdin::Wait;
 use wasi_table::{ResourceTable, TableError};
 
@@ -127,29 +128,51 @@ impl Own {
         }
     }
 
-    /// A pollable of a reader.
+    /// A pollable of a reader or a writer.
     pub fn subscribe(&mut self, number: u64) -> Result<Reply, OutOfMemory>
         ensures done { IfOk result (λ reply. record { reply = reply; own = self.new } ≡ subscribe_at (entry_at self.old number) number self.old) }
         ensures err { OnErr result (self.new ≡ self.old) }
     {
-        let reader = match self.find(number, Entry::READER) {
-            Ok(reader) => reader,
-            Err(trap) => return Ok(Reply::Trap(trap)),
-        };
-        match self.table.push_child(Entry::Pollable(Wait::new()), reader) {
+        match self.find(number, Entry::READER) {
+            Ok(reader) => self.make_under(Entry::Pollable(Wait::new()), reader),
+            Err(_) => match self.find(number, Entry::WRITER) {
+                Ok(writer) => self.make_under(Entry::Always, writer),
+                Err(trap) => Ok(Reply::Trap(trap)),
+            },
+        }
+    }
+
+    // a new entry, with a live one as its parent
+    fn make_under(&mut self, entry: Entry, parent: u32) -> Result<Reply, OutOfMemory>
+        requires { is_live self.old.table parent ≡ true }
+        ensures done { IfOk result (λ reply. record { reply = reply; own = self.new } ≡ made entry (Some parent) self.old) }
+        ensures err { OnErr result (self.new ≡ self.old) }
+    {
+        match self.table.push_child(entry, parent) {
             Ok(number) => Ok(Reply::Handle(number)),
             Err(TableError::OutOfMemory) => Err(OutOfMemory),
             Err(_) => Ok(Reply::Trap(TrapText::ResourceTableFull)),
         }
     }
 
+    // whether an always ready pollable stands at a number of a pollable
+    fn is_always(&self, found: u32) -> bool
+        ensures { result ≡ is_always (entry_at self.now found) }
+    {
+        matches!(self.table.get(found, Entry::POLLABLE), Ok(Entry::Always))
+    }
+
     pub fn ready<I: StandardInput>(&self, number: u64, input: &mut I) -> Reply
         ensures { record { reply = result; own = self.now; left = input.new } ≡ ready_at I.manner (entry_at self.now number) self.now input.old }
     {
-        match self.find(number, Entry::POLLABLE) {
-            Ok(_) => Reply::Truth(input.ready()),
-            Err(trap) => Reply::Trap(trap),
+        let found = match self.find(number, Entry::POLLABLE) {
+            Ok(found) => found,
+            Err(trap) => return Reply::Trap(trap),
+        };
+        if self.is_always(found) {
+            return Reply::Truth(true);
         }
+        Reply::Truth(input.ready())
     }
 
     pub fn block<I: StandardInput>(&mut self, number: u64, input: &mut I) -> Reply
@@ -159,9 +182,57 @@ impl Own {
             Ok(found) => found,
             Err(trap) => return Reply::Trap(trap),
         };
+        if self.is_always(found) {
+            return Reply::Truth(true);
+        }
         match self.table.get_mut(found, Entry::POLLABLE) {
             Ok(entry) => blocking(entry, input),
             Err(_) => unreachable!(),
+        }
+    }
+
+    /// The output that a call writes to by a number, where that is of a writer of its kind.
+    pub fn writer(&self, number: u64, call: &OutputCall) -> Option<Standard>
+        ensures { result ≡ writer_for call.now (entry_at self.now number) }
+    {
+        match call {
+            OutputCall::CheckWrite | OutputCall::Write { .. } | OutputCall::Flush => {
+                self.plain_writer(number)
+            }
+            OutputCall::PollWrite { .. } | OutputCall::PollFlush => self.polled_writer(number),
+        }
+    }
+
+    fn plain_writer(&self, number: u64) -> Option<Standard>
+        ensures { result ≡ writer_at (entry_at self.now number) }
+    {
+        let narrow = self.narrow(number)?;
+        match self.table.get(narrow, Entry::WRITER) {
+            Ok(Entry::Writer(standard)) => Some(*standard),
+            Ok(_) | Err(_) => None,
+        }
+    }
+
+    fn polled_writer(&self, number: u64) -> Option<Standard>
+        ensures { result ≡ polled_writer_at (entry_at self.now number) }
+    {
+        let narrow = self.narrow(number)?;
+        match self.table.get(narrow, Entry::POLLED_WRITER) {
+            Ok(Entry::PolledWriter(standard)) => Some(*standard),
+            Ok(_) | Err(_) => None,
+        }
+    }
+
+    /// The refusal of a call on a number at which nothing stands that it takes.
+    pub fn refuse(&self, number: u64) -> Reply
+        ensures { record { reply = result; own = self.now } ≡ refused (entry_at self.now number) self.now }
+    {
+        let Some(narrow) = self.narrow(number) else {
+            return Reply::Trap(TrapText::ResourceNotPresent);
+        };
+        match self.table.kind_of(narrow) {
+            Ok(_) => Reply::Trap(TrapText::ResourceWrongType),
+            Err(_) => Reply::Trap(TrapText::ResourceNotPresent),
         }
     }
 

@@ -25,7 +25,7 @@ pub enum SessionError {
     OutOfMemory,
 }
 
-// runs all steps, and gives the text of their replies
+// runs all steps, and gives the text of their replies and of the outputs
 fn run_steps<I: Source>(
     alloc: Global,
     steps: &[Line],

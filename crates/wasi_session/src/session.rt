@@ -3,6 +3,7 @@ ghost use Rattle.wasi_base.specs.Causes.{Rose};
 ghost use Rattle.wasi_stdin.specs.Shared.{given_now};
 ghost use Rattle.wasi_host.specs.Reply.{reply_line, OnFault};
 ghost use Rattle.wasi_host.specs.Host.{new_host, IsStep, Fits, reply_to, size_read};
+ghost use Rattle.wasi_host.specs.Transcript.{outputs_of, output_lines};
 ghost use Rattle.wasi_session.specs.Sitting.{Stopped};
 
 use crate::world::World;
@@ -86,11 +87,19 @@ impl Session {
         }
     }
 
-    /// Appends a line for each declared output: none, since no output can be declared yet.
+    /// Appends a line for each declared output, in order of declaration: its name and the bytes
+    /// that it took. Want of memory appends nothing.
     pub fn outputs(&self, text: &mut Vec<u8>) -> Result<(), OutOfMemory>
-        ensures { text.new.items ≡ text.old.items }
+        ensures ok { OnOk result (text.new.items ≡ text.old.items ++ output_lines (outputs_of self.now.host.streams)) }
+        ensures err { OnErr result (text.new.items ≡ text.old.items) }
     {
-        let _ = &text;
-        Ok(())
+        let before = text.len();
+        match self.world.outputs(text) {
+            Ok(()) => Ok(()),
+            Err(error) => {
+                text.truncate(before);
+                Err(error)
+            }
+        }
     }
 }

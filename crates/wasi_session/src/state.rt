@@ -1,16 +1,17 @@
-ghost use Rattle.std.specs.Prelude.{◌≡◌, ◌≤◌, IfOk, OnErr, true, false};
+ghost use Rattle.std.specs.Prelude.{◌≡◌, ◌≤◌, IfOk, OnErr, true, false, Some, None, MatchOption};
 ghost use Rattle.wasi_table.specs.Table.{new_table};
 ghost use Rattle.wasi_host.specs.Reply.{ends};
-ghost use Rattle.wasi_host.specs.Calls.{exit_status, stream_manner, call_rule};
+ghost use Rattle.wasi_host.specs.Calls.{exit_status, stream_manner, call_rule, sending_of, sent};
 ghost use Rattle.wasi_host.specs.Host.{left_own};
 ghost use Rattle.wasi_session.specs.States.{left_state};
 
 use crate::input::StandardInput;
+use crate::output::send;
 use crate::own::Own;
 use std::alloc::Global;
 use wasi_base::OutOfMemory;
-use wasi_host::{Entry, Reply, Stream};
-use wasi_script::{Call, ExitStatus};
+use wasi_host::{Entry, Reply, Standard, Stream};
+use wasi_script::{Call, ExitStatus, OutputCall};
 use wasi_stdin::Wait;
 
 /// What calls change of a guest: what it owns, and whether it was called and whether it ended.
@@ -62,38 +63,83 @@ impl State {
     fn apply<I: StandardInput>(
         &mut self,
         alloc: Global,
-        call: Call,
+        call: &Call,
         input: &mut I,
     ) -> Result<Reply, OutOfMemory>
-        ensures done { IfOk result (λ reply. record { reply = reply; own = self.new.own; left = input.new } ≡ call_rule I.manner call self.old.own input.old) }
+        ensures done { IfOk result (λ reply. record { reply = reply; own = self.new.own; left = input.new } ≡ call_rule I.manner call.now self.old.own input.old) }
         ensures rest { self.new ≡ record self.old { own = self.new.own } }
         ensures err { OnErr result ((self.new ≡ self.old) × (input.new ≡ input.old)) }
     {
         match call {
             Call::GetStdin => self.own.make(Entry::Reader),
             Call::AsyncStdin => self.own.make(Entry::Polled(Wait::new())),
-            Call::Read { number, size } => self.own.read(alloc, number, size, input),
-            Call::Skip { number, size } => Ok(self.own.skip(number, size, input)),
-            Call::PollRead { number, room } => self.own.poll_read(alloc, number, room, input),
-            Call::Subscribe { number } => self.own.subscribe(number),
-            Call::Ready { number } => Ok(self.own.ready(number, input)),
-            Call::Block { number } => Ok(self.own.block(number, input)),
-            Call::Drop { number } => Ok(self.own.drop(number)),
-            Call::Exit { status } => Ok(exit_of(status)),
-            Call::ExitCode { code } => Ok(Reply::Exit(code)),
+            Call::Read { number, size } => self.own.read(alloc, *number, *size, input),
+            Call::Skip { number, size } => Ok(self.own.skip(*number, *size, input)),
+            Call::PollRead { number, room } => self.own.poll_read(alloc, *number, *room, input),
+            Call::GetStdout => self.own.make(Entry::Writer(Standard::Output)),
+            Call::GetStderr => self.own.make(Entry::Writer(Standard::Error)),
+            Call::AsyncStdout => self.own.make(Entry::PolledWriter(Standard::Output)),
+            Call::AsyncStderr => self.own.make(Entry::PolledWriter(Standard::Error)),
+            Call::OnOutput { number, call: _ } => Ok(self.own.refuse(*number)),
+            Call::Subscribe { number } => self.own.subscribe(*number),
+            Call::Ready { number } => Ok(self.own.ready(*number, input)),
+            Call::Block { number } => Ok(self.own.block(*number, input)),
+            Call::Drop { number } => Ok(self.own.drop(*number)),
+            Call::Exit { status } => Ok(exit_of(*status)),
+            Call::ExitCode { code } => Ok(Reply::Exit(*code)),
         }
+    }
+
+    /// The output that a call goes to, if it goes to one, and what it calls there.
+    pub fn sending<'a>(&self, call: &'a Call) -> Option<(Standard, &'a OutputCall)>
+        ensures { MatchOption result (sending_of call.now self.now.own ≡ None) (λ it. sending_of call.now self.now.own ≡ Some (record { to = it.0; call = it.1.now })) }
+    {
+        match call {
+            Call::OnOutput { number, call } => match self.own.writer(*number, call) {
+                Some(standard) => Some((standard, call)),
+                None => None,
+            },
+            _ => None,
+        }
+    }
+
+    /// A call on an output of the guest, and what follows of its reply.
+    pub fn send(
+        &mut self,
+        alloc: Global,
+        call: &OutputCall,
+        stream: &mut Stream,
+    ) -> Result<Reply, OutOfMemory>
+        ensures reply { IfOk result (λ reply. reply ≡ (sent call.now stream.old).reply) }
+        ensures left { IfOk result (λ reply. stream.new ≡ (sent call.now stream.old).left) }
+        ensures after { IfOk result (λ reply. self.new ≡ left_state (sent call.now stream.old).reply self.old.own) }
+        ensures err { OnErr result ((self.new ≡ self.old) × (stream.new ≡ stream.old)) }
+    {
+        let reply = send(stream, alloc, call)?;
+        self.settle(&reply);
+        Ok(reply)
+    }
+
+    /// A call on a closed output.
+    pub fn send_closed(&mut self, alloc: Global, call: &OutputCall) -> Result<Reply, OutOfMemory>
+        ensures reply { IfOk result (λ reply. reply ≡ (sent call.now Stream.Closed).reply) }
+        ensures after { IfOk result (λ reply. self.new ≡ left_state (sent call.now Stream.Closed).reply self.old.own) }
+        ensures err { OnErr result (self.new ≡ self.old) }
+    {
+        let mut closed = Stream::Closed;
+        self.send(alloc, call, &mut closed)
     }
 
     /// A call on the input that the guest reads, and what follows of its reply.
     pub fn call<I: StandardInput>(
         &mut self,
         alloc: Global,
-        call: Call,
+        call: &Call,
         input: &mut I,
     ) -> Result<Reply, OutOfMemory>
-        ensures reply { IfOk result (λ reply. reply ≡ (call_rule I.manner call self.old.own input.old).reply) }
-        ensures left { IfOk result (λ reply. input.new ≡ (call_rule I.manner call self.old.own input.old).left) }
-        ensures after { IfOk result (λ reply. self.new ≡ left_state (call_rule I.manner call self.old.own input.old).reply (call_rule I.manner call self.old.own input.old).own) }
+        ensures reply { IfOk result (λ reply. reply ≡ (call_rule I.manner call.now self.old.own input.old).reply) }
+        ensures left { IfOk result (λ reply. input.new ≡ (call_rule I.manner call.now self.old.own input.old).left) }
+        ensures after { IfOk result (λ reply. self.new ≡ left_state (call_rule I.manner call.now self.old.own input.old).reply (call_rule I.manner call.now self.old.own input.old).own) }
         ensures err { OnErr result ((self.new ≡ self.old) × (input.new ≡ input.old)) }
     {
         let reply = self.apply(alloc, call, input)?;
@@ -102,9 +148,9 @@ impl State {
     }
 
     /// A call on a closed input.
-    pub fn call_closed(&mut self, alloc: Global, call: Call) -> Result<Reply, OutOfMemory>
-        ensures reply { IfOk result (λ reply. reply ≡ (call_rule stream_manner call self.old.own Stream.Closed).reply) }
-        ensures after { IfOk result (λ reply. self.new ≡ left_state (call_rule stream_manner call self.old.own Stream.Closed).reply (call_rule stream_manner call self.old.own Stream.Closed).own) }
+    pub fn call_closed(&mut self, alloc: Global, call: &Call) -> Result<Reply, OutOfMemory>
+        ensures reply { IfOk result (λ reply. reply ≡ (call_rule stream_manner call.now self.old.own Stream.Closed).reply) }
+        ensures after { IfOk result (λ reply. self.new ≡ left_state (call_rule stream_manner call.now self.old.own Stream.Closed).reply (call_rule stream_manner call.now self.old.own Stream.Closed).own) }
         ensures err { OnErr result (self.new ≡ self.old) }
     {
         let mut closed = Stream::Closed;

@@ -257,6 +257,194 @@ fn closed_inputs_are_at_their_end(rt: HostRuntime) -> Result<(), Fail> {
     )
 }
 
+// a script without any input
+fn shows(rt: &impl Abort, alloc: Global, script: &[u8], transcript: &[u8]) -> Result<(), Fail> {
+    let none = Vec::new(alloc);
+    plays(rt, alloc, script, b"", none, transcript, b"")
+}
+
+#[test]
+fn a_guest_reads_and_answers(rt: HostRuntime) -> Result<(), Fail> {
+    let none = Vec::new(rt.alloc());
+    plays(
+        &rt,
+        rt.alloc(),
+        b"outfile O 64 -\nguest 0 shared\nstdout 0 O\ncall 0 get-stdin\ncall 0 subscribe 0\ncall 0 block 1\ncapture\ndeliver\ncall 0 block 1\ncall 0 read 0 4096\ncall 0 get-stdout\ncall 0 check-write 2\ncall 0 write 2 68690a\ncall 0 flush 2\ncall 0 read 0 4096\ncapture\ndeliver\ncall 0 read 0 4096\ncall 0 exit ok\n",
+        b"hi\n",
+        none,
+        b"ok\nok\nok\nhandle 0\nhandle 1\nfalse\ncaptured 65536\ngave 3\ntrue\nbytes 68690a\nhandle 2\ncount 65536\nok\nok\nbytes -\ncaptured 4096\nend\nclosed\nexit 0\noutput O 68690a\n",
+        b"",
+    )
+}
+
+#[test]
+fn a_broken_pipe_is_told_by_kind(rt: HostRuntime) -> Result<(), Fail> {
+    shows(
+        &rt,
+        rt.alloc(),
+        b"outfile O 64 t2,fbrokenpipe\nguest 0 empty\nstdout 0 O\ncall 0 get-stdout\ncall 0 write 0 616263\n",
+        b"ok\nok\nok\nhandle 0\nfailed brokenpipe\noutput O 6162\n",
+    )?;
+    shows(
+        &rt,
+        rt.alloc(),
+        b"stdio O 64 t2,fbrokenpipe\nguest 0 empty\nstdout 0 O\ncall 0 get-stdout\ncall 0 write 0 616263\n",
+        b"ok\nok\nok\nhandle 0\nclosed\noutput O 6162\n",
+    )?;
+    shows(
+        &rt,
+        rt.alloc(),
+        b"outpipe P 3\nguest 0 empty\nstdout 0 P\ncall 0 get-stdout\ncall 0 write 0 616263\ncall 0 check-write 0\ncall 0 write 0 64\n",
+        b"ok\nok\nok\nhandle 0\nok\nclosed\ntrap write beyond capacity of MemoryOutputPipe\noutput P 616263\n",
+    )
+}
+
+// each call on an output once, after these lines
+fn answers(rt: &impl Abort, alloc: Global, lines: &[u8], transcript: &[u8]) -> Result<(), Fail> {
+    let mut script = Vec::from_slice(alloc, lines)?;
+    script.extend_from_slice(
+        b"call 0 get-stdout\ncall 0 async-stdout\ncall 0 check-write 0\ncall 0 write 0 6162\ncall 0 flush 0\ncall 0 poll-write 1 6364\ncall 0 poll-flush 1\ncall 0 subscribe 0\ncall 0 ready 2\ncall 0 block 2\n",
+    )?;
+    shows(rt, alloc, &script, transcript)
+}
+
+#[test]
+fn outputs_that_no_line_declares_answer(rt: HostRuntime) -> Result<(), Fail> {
+    answers(
+        &rt,
+        rt.alloc(),
+        b"guest 0 empty\n",
+        b"ok\nhandle 0\nhandle 1\ncount 18446744073709551615\nok\nok\ncount 2\nok\nhandle 2\ntrue\ntrue\n",
+    )?;
+    answers(
+        &rt,
+        rt.alloc(),
+        b"guest 0 empty\nstdout 0 sink\n",
+        b"ok\nok\nhandle 0\nhandle 1\ncount 18446744073709551615\nok\nok\ncount 2\nok\nhandle 2\ntrue\ntrue\n",
+    )?;
+    answers(
+        &rt,
+        rt.alloc(),
+        b"guest 0 empty\nstdout 0 closed\n",
+        b"ok\nok\nhandle 0\nhandle 1\nclosed\nclosed\nclosed\ncount 0\nok\nhandle 2\ntrue\ntrue\n",
+    )
+}
+
+#[test]
+fn declared_outputs_answer_by_their_plans(rt: HostRuntime) -> Result<(), Fail> {
+    answers(
+        &rt,
+        rt.alloc(),
+        b"outpipe P 3\nguest 0 empty\nstdout 0 P\n",
+        b"ok\nok\nok\nhandle 0\nhandle 1\ncount 3\nok\nok\ncount 1\nok\nhandle 2\ntrue\ntrue\noutput P 616263\n",
+    )?;
+    answers(
+        &rt,
+        rt.alloc(),
+        b"outfile O 64 t1,fother,lother\nguest 0 empty\nstdout 0 O\n",
+        b"ok\nok\nok\nhandle 0\nhandle 1\ncount 65536\nfailed other\nfailed other\ncount 2\nok\nhandle 2\ntrue\ntrue\noutput O 616364\n",
+    )?;
+    answers(
+        &rt,
+        rt.alloc(),
+        b"stdio S 64 t1,lbrokenpipe,fbrokenpipe\nguest 0 empty\nstdout 0 S\n",
+        b"ok\nok\nok\nhandle 0\nhandle 1\ncount 65536\nclosed\nclosed\ncount 2\nok\nhandle 2\ntrue\ntrue\noutput S 616364\n",
+    )
+}
+
+#[test]
+fn polled_faults_are_told(rt: HostRuntime) -> Result<(), Fail> {
+    shows(
+        &rt,
+        rt.alloc(),
+        b"outfile O 64 t1,fbrokenpipe,lother\nguest 0 empty\nstderr 0 O\ncall 0 async-stderr\ncall 0 poll-write 0 6162\ncall 0 poll-flush 0\ncall 0 poll-write 0 63\n",
+        b"ok\nok\nok\nhandle 0\nfailed brokenpipe\nfailed other\ncount 1\noutput O 6163\n",
+    )?;
+    shows(
+        &rt,
+        rt.alloc(),
+        b"stdio S 64 t1,fbrokenpipe,lother\nguest 0 empty\nstderr 0 S\ncall 0 async-stderr\ncall 0 poll-write 0 6162\ncall 0 poll-write 0 62\ncall 0 poll-flush 0\ncall 0 poll-write 0 63\n",
+        b"ok\nok\nok\nhandle 0\ncount 1\nfailed brokenpipe\nfailed other\ncount 1\noutput S 6163\n",
+    )
+}
+
+#[test]
+fn calls_on_numbers_of_other_kinds_trap(rt: HostRuntime) -> Result<(), Fail> {
+    shows(
+        &rt,
+        rt.alloc(),
+        b"outpipe P 3\nguest 0 empty\nguest 1 empty\nguest 2 empty\nstdout 0 P\nstderr 1 P\ncall 0 get-stdin\ncall 0 write 0 61\ncall 1 get-stderr\ncall 1 write 0 62\ncall 1 poll-write 0 63\ncall 1 write 0 64\ncall 2 async-stdout\ncall 2 flush 1\n",
+        b"ok\nok\nok\nok\nok\nok\nhandle 0\ntrap resource has another type\nhandle 0\nok\ntrap resource has another type\nended\nhandle 0\ntrap resource not present\noutput P 62\n",
+    )
+}
+
+// a session whose transcript is long
+fn shows_long(
+    rt: &impl Abort,
+    alloc: Global,
+    script: &[u8],
+    transcript: &[u8],
+) -> Result<(), Fail> {
+    let mut script = CleanSource::new(Vec::from_slice(alloc, script)?);
+    let mut stdin = CleanSource::new(Vec::new(alloc));
+    let mut out = MemSink::new(alloc, 4194304, Vec::new(alloc))?;
+    let answer = run_session(alloc, &mut script, &mut stdin, &mut out);
+    assert!(rt; answer.is_ok());
+    assert!(rt; out.taken() == transcript);
+    Ok(())
+}
+
+#[test]
+fn an_output_of_the_process_takes_65536_bytes(rt: HostRuntime) -> Result<(), Fail> {
+    let alloc = rt.alloc();
+    let mut transcript = Vec::from_slice(
+        alloc,
+        b"ok\nok\nok\nhandle 0\nok\ntrap write exceeded budget\noutput S ",
+    )?;
+    transcript.extend_from_slice(&vec![in alloc; b'0'; 131072]?)?;
+    transcript.extend_from_slice(b"\n")?;
+    shows_long(
+        &rt,
+        alloc,
+        b"stdio S 131072 -\nguest 0 empty\nstdout 0 S\ncall 0 get-stdout\ncall 0 write 0 65536*00\ncall 0 write 0 65537*00\n",
+        &transcript,
+    )
+}
+
+#[test]
+fn the_greatest_write_goes_out(rt: HostRuntime) -> Result<(), Fail> {
+    let alloc = rt.alloc();
+    let mut transcript = Vec::from_slice(alloc, b"ok\nok\nok\nhandle 0\nok\noutput P ")?;
+    transcript.extend_from_slice(&vec![in alloc; b'7'; 2097152]?)?;
+    transcript.extend_from_slice(b"\n")?;
+    shows_long(
+        &rt,
+        alloc,
+        b"outpipe P 1048576\nguest 0 empty\nstdout 0 P\ncall 0 get-stdout\ncall 0 write 0 1048576*77\n",
+        &transcript,
+    )
+}
+
+#[test]
+fn there_are_64_guests_and_64_streams(rt: HostRuntime) -> Result<(), Fail> {
+    let alloc = rt.alloc();
+    let mut script = String::new(alloc);
+    let mut transcript = String::new(alloc);
+    let mut outputs = String::new(alloc);
+    for n in 10..74u8 {
+        let guest = n.saturating_sub(10);
+        let lines = format!(in alloc;
+            "outpipe P{n} 9\nguest {guest} empty\nstdout {guest} P{n}\ncall {guest} get-stdout\ncall {guest} write 0 {n}\n"
+        )?;
+        script.push_str(&lines)?;
+        transcript.push_str("ok\nok\nok\nhandle 0\nok\n")?;
+        let output = format!(in alloc; "output P{n} {n}\n")?;
+        outputs.push_str(&output)?;
+    }
+    transcript.push_str(&outputs)?;
+    shows_long(&rt, alloc, script.as_bytes(), transcript.as_bytes())
+}
+
 // a source that tells nothing and counts its reads
 #[derive(Drop)]
 struct Counting {

@@ -1,5 +1,6 @@
-ghost use Rattle.std.specs.Prelude.{◌≡◌, IfOk, OnErr};
+ghost use Rattle.std.specs.Prelude.{◌≡◌, IfOk, OnErr, Some, false};
 ghost use Rattle.wasi_host.specs.Entry.{kind_of, wait_in};
+ghost use Rattle.wasi_session.specs.Refusals.{is_always};
 
 use crate::input::StandardInput;
 use std::alloc::Global;
@@ -21,19 +22,28 @@ pub fn polling<I: StandardInput>(
 {
     match entry {
         Entry::Polled(wait) => input.poll_read(alloc, wait, room),
-        Entry::Reader | Entry::Pollable(_) => unreachable!(),
+        Entry::Reader
+        | Entry::Pollable(_)
+        | Entry::Always
+        | Entry::Writer(_)
+        | Entry::PolledWriter(_) => unreachable!(),
     }
 }
 
 /// A block, whose entry keeps its wait.
 pub fn blocking<I: StandardInput>(entry: &mut Entry, input: &mut I) -> Reply
-    requires { kind_of entry.old ≡ 2 }
+    requires kind { kind_of entry.old ≡ 2 }
+    requires waits { is_always (Some entry.old) ≡ false }
     ensures reply { result ≡ Reply.Truth (I.manner.block input.old (wait_in entry.old)) }
     ensures after { input.new ≡ I.manner.after_block input.old (wait_in entry.old) }
     ensures wait { entry.new ≡ Entry.Pollable (I.manner.wait_after_block input.old (wait_in entry.old)) }
 {
     match entry {
         Entry::Pollable(wait) => Reply::Truth(input.block(wait)),
-        Entry::Reader | Entry::Polled(_) => unreachable!(),
+        Entry::Reader
+        | Entry::Polled(_)
+        | Entry::Always
+        | Entry::Writer(_)
+        | Entry::PolledWriter(_) => unreachable!(),
     }
 }

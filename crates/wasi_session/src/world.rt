@@ -1,24 +1,23 @@
-ghost use Rattle.std.specs.Prelude.{true, ◌≡◌, ◌^◌, ◌-◌, ◌<◌, ◌≤◌, IfOk, OnOk, OnErr, is_some, Some, None, set, MatchOption, replicate};
-ghost use Rattle.std.specs.Option.{option_map};
+ghost use Rattle.std.specs.Prelude.{true, ◌≡◌, ◌^◌, ◌-◌, ◌<◌, ◌≤◌, IfOk, OnOk, OnErr, is_some, Some, None, set, MatchOption, replicate, [], ◌++◌, length, take};
 ghost use Rattle.std.specs.Map.{lookup};
 ghost use Rattle.std.specs.Str.{bytes_eq};
 ghost use Rattle.wasi_base.specs.Causes.{Rose};
 ghost use Rattle.wasi_base.specs.Source.{Gives};
 ghost use Rattle.wasi_stdin.specs.Shared.{capture_of, after_capture, given_now};
 ghost use Rattle.wasi_host.specs.Reply.{OnFault};
-ghost use Rattle.wasi_host.specs.Host.{new_guest, with_capacity, new_host, guest_of, put_answered, answer_in, with_stream, capture_reply, delivery_reply, after_delivery, outcome_reply, IsStep, Fits, size_read};
+ghost use Rattle.wasi_host.specs.Host.{the_rules, new_guest, with_capacity, with_stdout, with_stderr, with_guest_set, new_outlet, new_host, guest_of, answer_in, called_in, with_stream, capture_reply, delivery_reply, after_delivery, outcome_reply, IsStep, Fits, size_read};
+ghost use Rattle.wasi_host.specs.Transcript.{outputs_of, output_lines};
 
 use crate::guest::Guest;
-use crate::room::room_of;
+use crate::room::{room_of, shared_bytes};
 use crate::streams::Streams;
-use bytes::Bytes;
 use std::alloc::Global;
 use std::marker::Model;
-use wasi_base::{MemSource, OutOfMemory, Source};
-use wasi_host::{FileInput, Reply, Stream};
-use wasi_script::{ByteString, Call, Input, Line, Name, ReadPlan};
+use wasi_base::{MemSink, MemSource, OutOfMemory, Source};
+use wasi_host::{FileInput, FileOutput, ProcessOutput, Reply, Stream};
+use wasi_script::{ByteString, Call, Input, Line, Name, Output, ReadPlan, WritePlan};
 use wasi_stdin::{MOST_BYTES, Outcome, StdinCore, deliver_from};
-use wasi_streams::MemoryInputPipe;
+use wasi_streams::{MemoryInputPipe, MemoryOutputPipe};
 
 fn reply_with(outcome: Outcome) -> Reply
     ensures { result ≡ outcome_reply outcome }
@@ -56,17 +55,28 @@ fn copy_input(alloc: Global, input: &Input) -> Result<Input, OutOfMemory>
     }
 }
 
-fn shared_bytes(alloc: Global, bytes: &ByteString) -> Result<Bytes, OutOfMemory>
-    ensures { IfOk result (λ shared. shared ≡ bytes.now) }
+fn copy_output(alloc: Global, output: &Output) -> Result<Output, OutOfMemory>
+    ensures { IfOk result (λ copy. copy ≡ output.now) }
 {
-    let bytes = bytes.to_vec(alloc)?;
-    match Bytes::from_vec(bytes) {
-        Ok(bytes) => Ok(bytes),
-        Err(_) => Err(OutOfMemory),
+    match output {
+        Output::Empty => Ok(Output::Empty),
+        Output::Sink => Ok(Output::Sink),
+        Output::Closed => Ok(Output::Closed),
+        Output::Named(name) => {
+            let name = name.copy(alloc)?;
+            Ok(Output::Named(name))
+        }
     }
 }
 
-/// The shared input and all guests, by their numbers.
+fn new_sink(alloc: Global, room: u64, plan: &WritePlan) -> Result<MemSink, OutOfMemory>
+    ensures { IfOk result (λ sink. record { taken = sink.taken; limits = sink.limits } ≡ new_outlet room plan.now) }
+{
+    let plan = plan.to_vec(alloc)?;
+    MemSink::new(alloc, room, plan)
+}
+
+/// The shared input, all guests by their numbers, and the declared streams.
 #[derive(Drop)]
 pub struct World {
     core: StdinCore,
@@ -79,13 +89,14 @@ impl Model for World {
     ghost use Rattle.std.specs.Prelude.{◌≡◌, ◌≤◌, length};
     ghost use Rattle.wasi_stdin.specs.contracts.stdin_core.StdinCore.{the_row as core_row};
     ghost use Rattle.wasi_script.specs.contracts.lines.Input.{the_row as input_row};
+    ghost use Rattle.wasi_script.specs.contracts.lines.Output.{the_row as output_row};
     ghost use Rattle.wasi_host.specs.contracts.stream.Stream.{the_row as stream_row};
     ghost use Rattle.wasi_host.specs.Host.{Host};
     ghost use Rattle.wasi_host.specs.Codes.{host_code};
 
     ghost Value = { Host };
 
-    ghost coded = { host_code core_row.coded input_row.coded stream_row.coded };
+    ghost coded = { host_code core_row.coded input_row.coded output_row.coded stream_row.coded };
 
     ghost view = { λ w. record { shared = w.core; guests = w.guests.items; streams = w.streams } };
 
@@ -123,12 +134,50 @@ impl World {
         requires there { is_some (guest_of self.old guest) ≡ true }
         requires low { 1 ≤ capacity }
         requires high { capacity ≤ 65536 }
-        ensures { self.new ≡ record self.old { guests = set self.old.guests guest (option_map (with_capacity capacity) (guest_of self.old guest)) } }
+        ensures { self.new ≡ with_guest_set (with_capacity capacity) guest self.old }
     {
         match &mut self.guests[guest as usize] {
             Some(guest) => guest.set_capacity(alloc, capacity),
             None => unreachable!(),
         }
+    }
+
+    fn set_stdout(
+        &mut self,
+        alloc: Global,
+        guest: u32,
+        output: &Output,
+    ) -> Result<Reply, OutOfMemory>
+        requires { is_some (guest_of self.old guest) ≡ true }
+        ensures reply { IfOk result (λ reply. reply ≡ Reply.Ok) }
+        ensures after { OnOk result (self.new ≡ with_guest_set (with_stdout output.now) guest self.old) }
+        ensures err { OnErr result (self.new ≡ self.old) }
+    {
+        let output = copy_output(alloc, output)?;
+        match &mut self.guests[guest as usize] {
+            Some(guest) => guest.set_stdout(output),
+            None => unreachable!(),
+        }
+        Ok(Reply::Ok)
+    }
+
+    fn set_stderr(
+        &mut self,
+        alloc: Global,
+        guest: u32,
+        output: &Output,
+    ) -> Result<Reply, OutOfMemory>
+        requires { is_some (guest_of self.old guest) ≡ true }
+        ensures reply { IfOk result (λ reply. reply ≡ Reply.Ok) }
+        ensures after { OnOk result (self.new ≡ with_guest_set (with_stderr output.now) guest self.old) }
+        ensures err { OnErr result (self.new ≡ self.old) }
+    {
+        let output = copy_output(alloc, output)?;
+        match &mut self.guests[guest as usize] {
+            Some(guest) => guest.set_stderr(output),
+            None => unreachable!(),
+        }
+        Ok(Reply::Ok)
     }
 
     fn capture(&mut self) -> Reply
@@ -171,10 +220,63 @@ impl World {
         Ok(Reply::Ok)
     }
 
-    fn call(&mut self, alloc: Global, guest: u32, call: Call) -> Result<Reply, OutOfMemory>
+    fn out_pipe(&mut self, alloc: Global, name: &Name, capacity: u64) -> Result<Reply, OutOfMemory>
+        requires { lookup (bytes_eq name.now) self.old.streams ≡ None }
+        ensures reply { IfOk result (λ reply. reply ≡ Reply.Ok) }
+        ensures after { OnOk result (self.new ≡ with_stream name.now (Stream.OutPipe (record { contents = []; room = capacity })) self.old) }
+        ensures err { OnErr result (self.new ≡ self.old) }
+    {
+        let pipe = Stream::OutPipe(MemoryOutputPipe::new(alloc, capacity)?);
+        self.streams.add(alloc, name, pipe)?;
+        Ok(Reply::Ok)
+    }
+
+    fn out_file(
+        &mut self,
+        alloc: Global,
+        name: &Name,
+        room: u64,
+        plan: &WritePlan,
+    ) -> Result<Reply, OutOfMemory>
+        requires { lookup (bytes_eq name.now) self.old.streams ≡ None }
+        ensures reply { IfOk result (λ reply. reply ≡ Reply.Ok) }
+        ensures after { OnOk result (self.new ≡ with_stream name.now (Stream.OutFile (new_outlet room plan.now)) self.old) }
+        ensures err { OnErr result (self.new ≡ self.old) }
+    {
+        let file = Stream::OutFile(FileOutput::new(new_sink(alloc, room, plan)?));
+        self.streams.add(alloc, name, file)?;
+        Ok(Reply::Ok)
+    }
+
+    fn stdio(
+        &mut self,
+        alloc: Global,
+        name: &Name,
+        room: u64,
+        plan: &WritePlan,
+    ) -> Result<Reply, OutOfMemory>
+        requires { lookup (bytes_eq name.now) self.old.streams ≡ None }
+        ensures reply { IfOk result (λ reply. reply ≡ Reply.Ok) }
+        ensures after { OnOk result (self.new ≡ with_stream name.now (Stream.Stdio (new_outlet room plan.now)) self.old) }
+        ensures err { OnErr result (self.new ≡ self.old) }
+    {
+        let output = Stream::Stdio(ProcessOutput::new(new_sink(alloc, room, plan)?));
+        self.streams.add(alloc, name, output)?;
+        Ok(Reply::Ok)
+    }
+
+    /// Appends the line of each declared output, in order. Want of memory may leave a part of them.
+    pub fn outputs(&self, text: &mut Vec<u8>) -> Result<(), OutOfMemory>
+        ensures ok { OnOk result (text.new.items ≡ text.old.items ++ output_lines (outputs_of self.now.streams)) }
+        ensures err { OnErr result (take (length text.old.items) text.new.items ≡ text.old.items) }
+    {
+        self.streams.outputs(text)
+    }
+
+    fn call(&mut self, alloc: Global, guest: u32, call: &Call) -> Result<Reply, OutOfMemory>
         requires { is_some (guest_of self.old guest) ≡ true }
-        ensures reply { IfOk result (λ reply. reply ≡ (answer_in call (guest_of self.old guest) self.old.shared self.old.streams).reply) }
-        ensures after { OnOk result (self.new ≡ put_answered self.old guest (answer_in call (guest_of self.old guest) self.old.shared self.old.streams)) }
+        ensures reply { IfOk result (λ reply. reply ≡ (answer_in the_rules call.now (guest_of self.old guest) self.old.shared self.old.streams).reply) }
+        ensures after { OnOk result (self.new ≡ called_in the_rules call.now guest self.old) }
         ensures err { OnErr result (self.new ≡ self.old) }
     {
         match &mut self.guests[guest as usize] {
@@ -216,12 +318,17 @@ impl World {
         match line {
             Line::Pipe { name, bytes } => self.pipe(alloc, name, bytes),
             Line::InFile { name, bytes, plan } => self.in_file(alloc, name, bytes, plan),
+            Line::OutPipe { name, capacity } => self.out_pipe(alloc, name, *capacity),
+            Line::OutFile { name, room, plan } => self.out_file(alloc, name, *room, plan),
+            Line::Stdio { name, room, plan } => self.stdio(alloc, name, *room, plan),
             Line::Guest { guest, input } => self.declare(alloc, *guest, input),
+            Line::Stdout { guest, output } => self.set_stdout(alloc, *guest, output),
+            Line::Stderr { guest, output } => self.set_stderr(alloc, *guest, output),
             Line::Capacity { guest, capacity } => {
                 self.set_capacity(alloc, *guest, *capacity);
                 Ok(Reply::Ok)
             }
-            Line::Call { guest, call } => self.call(alloc, *guest, *call),
+            Line::Call { guest, call } => self.call(alloc, *guest, call),
             Line::Capture => Ok(self.capture()),
             Line::Deliver => Ok(self.deliver(stdin)),
         }

@@ -1,6 +1,7 @@
-use Rattle.std.proofs.Common.{◌≡◌, ◌∙◌, get_or, refl, sym, arith}
+use Rattle.std.proofs.Common.{◌≡◌, ◌∙◌, ◌++◌, get_or, refl, sym, arith}
 use Rattle.wasi_stdin.specs.Shared.{given_now}
 use Rattle.wasi_script.specs.declared.lines.Line.{Line}
+use Rattle.wasi_host.specs.Transcript.{outputs_of, output_lines}
 use Rattle.wasi_host.specs.Steps.{go_on, stand_on, at_end, names_new, places_step, count_step}
 use Rattle.wasi_session.proofs.run.run_steps.Goals as goal
 
@@ -9,7 +10,7 @@ loop-line-init g c = record {
   stand = rw (c.in_ok-session.ensures, names_new) c.requires;
   places = rw c.in_ok-session.ensures refl;
   count = rw c.in_ok-session.ensures (omega arith);
-  told = λ t e. record { u = t; now_is = e; text_is = rw (c.new-text.ensures.items, c.in_ok-session.ensures) refl; last_is = rw c.in_ok-session.ensures refl };
+  told = λ t e. record { u = t; now_is = e; text_is = rw (c.new-text.ensures.items, c.in_ok-session.ensures) refl; end_is = rw c.in_ok-session.ensures refl; last_is = rw c.in_ok-session.ensures refl };
   later = omega arith;
 }
 
@@ -27,12 +28,14 @@ loop-line-preserved g c =
       stand = stand_on old new given steps i line c.loop-line-test.true at c.loop-line.invariant.places c.loop-line.invariant.stand is.host_is;
       places = rw is.host_is (places_step line old given ∙ c.loop-line.invariant.places);
       count = rw is.host_is (omega (arith, count_step line old given));
-      told = λ t e. go_on _ _ old new c.loop-line.text.items c.step.new.reply.items steps i line _ _ _ c.loop-line-test.true at (c.loop-line.invariant.told t e) is c.in_ok-step.ensures.text;
+      told = λ t e. go_on _ _ old new c.loop-line.text.items c.step.new.reply.items steps i line _ _ _ _ c.loop-line-test.true at (c.loop-line.invariant.told t e) is c.in_ok-step.ensures.text;
       later = omega (arith, c.in_ok-step.ensures.later, c.loop-line.invariant.later);
     }
 
 pub returns-clause-text : goal.returns-clause-text
-returns-clause-text g c = λ t e. c.outputs.ensures ∙ (at_end _ _ c.loop-line.text.items c.args.steps.now c.loop-line.line-index _ _ (omega arith) (c.loop-line.invariant.told t e)).0
+returns-clause-text g c = λ t e.
+    let end = at_end _ _ c.loop-line.text.items c.args.steps.now c.loop-line.line-index _ _ _ (omega arith) (c.loop-line.invariant.told t e) in
+    c.in_ok-outputs.ensures.ok ∙ (λ i. end.0 i ++ output_lines (outputs_of (end.1 i).streams))
 
 pub returns-clause-told : goal.returns-clause-told
-returns-clause-told g c = λ t e. (at_end _ _ c.loop-line.text.items c.args.steps.now c.loop-line.line-index _ _ (omega arith) (c.loop-line.invariant.told t e)).1
+returns-clause-told g c = λ t e. (at_end _ _ c.loop-line.text.items c.args.steps.now c.loop-line.line-index _ _ _ (omega arith) (c.loop-line.invariant.told t e)).2

@@ -1,4 +1,5 @@
 use Rattle.std.proofs.Common.{ap}
+use Rattle.wasi_host.specs.Calls.{stream_manner, call_rule}
 use Rattle.wasi_session.proofs.RowFacts.{stream_there, stream_put, left_there, err_there, stream_none, left_none, err_none}
 use Rattle.wasi_session.proofs.streams.Streams.call.Goals.{in-Some, in-None}
 use Rattle.wasi_session.proofs.streams.Streams.call.Goals as goal
@@ -14,7 +15,7 @@ returns-clause-reply c = elim c.match-get_mut.branch [
 pub returns-clause-left : goal.returns-clause-left
 returns-clause-left c = elim c.match-get_mut.branch [
   | in-Some w ↦
-      rw (w.result-is, w.self-inside-is) (left_there w.call.result c.args.self.now _ c.args.name.now c.args.call c.args.state.now.own w.in-Some.stream.now w.call.new.input
+      rw (w.result-is, w.self-inside-is) (left_there w.call.result c.args.self.now _ c.args.name.now (λ it. (call_rule stream_manner c.args.call.now c.args.state.now.own it).left) w.in-Some.stream.now w.call.new.input
       (stream_there c.self.inside.rows.entries c.args.self.now c.args.name.now w.in-Some.stream.now c.self.view_is (rw w.in-Some.is at c.get_mut.ensures.value))
       (stream_put c.self.inside.rows.entries _ c.args.self.now c.args.name.now w.call.new.input c.self.view_is (c.get_mut.follows.holds w.call.new.input).0)
       w.call.ensures.left)
