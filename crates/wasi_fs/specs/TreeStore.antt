@@ -1,5 +1,5 @@
 -- A tree as a store of its files.
-use Rattle.std.specs.Prelude.{◌≡◌, ℕ, List, Option, Some}
+use Rattle.std.specs.Prelude.{◌≡◌, ℕ, List, Some}
 use Rattle.wasi_fs_nodes.specs.Nodes.{kind_at, bytes_at, total_bytes}
 use Rattle.wasi_fs_nodes.specs.Bodies.{with_body}
 use Rattle.wasi_fs_nodes.specs.Changes.{file_limit, tree_limit}

@@ -1,6 +1,7 @@
 ghost use Rattle.std.specs.Prelude.{◌≡◌, IfOk};
 ghost use Rattle.wasi_fs_nodes.specs.Nodes.{kind_at, names_at};
-ghost use Rattle.wasi_fs.specs.Listing.{type_of_node, entries_told, listed, IsMapped};
+ghost use Rattle.wasi_fs_nodes.specs.Stats.{pairs_of};
+ghost use Rattle.wasi_fs.specs.Listing.{Ascend, type_of_node, entries_told, listed, IsMapped};
 ghost use Rattle.wasi_fs.specs.Outcome.{Meets};
 ghost use Rattle.wasi_fs.specs.Trees.{IsDirOf};
 
@@ -10,7 +11,7 @@ use crate::look_ups::type_of;
 use crate::tree::Tree;
 use std::alloc::{AllocError, Global};
 use wasi_base::TrappableError;
-use wasi_fs_nodes::{Kind, Nodes, StoreError};
+use wasi_fs_nodes::{Entry, Kind, Nodes, StoreError};
 use wasi_fs_types::{CwdText, DescriptorType, ErrorCode, FilesystemResult};
 
 /// The type of a node; each node that an entry names was made.
@@ -23,13 +24,21 @@ fn type_of_node(kind: Option<Kind>) -> DescriptorType
     }
 }
 
-/// The entries of a directory.
+/// The entries of a directory, in their order.
 fn entries_of(nodes: &Nodes, alloc: Global, dir: u64) -> Result<Vec<DirectoryEntry>, AllocError>
-    ensures { IfOk result (λ entries. entries.items ≡ entries_told nodes.now (names_at nodes.now dir)) }
+    ensures entries { IfOk result (λ entries. entries.items ≡ entries_told nodes.now (names_at nodes.now dir)) }
+    ensures ascending { IfOk result (λ entries. Ascend entries.items) }
 {
-    let Ok(names) = nodes.list(dir) else {
-        return Err(AllocError);
-    };
+    match nodes.list(dir) {
+        Ok(names) => told(nodes, alloc, names),
+        Err(_) => Err(AllocError),
+    }
+}
+
+// these names, each with the type of its node
+fn told(nodes: &Nodes, alloc: Global, names: Vec<Entry>) -> Result<Vec<DirectoryEntry>, AllocError>
+    ensures { IfOk result (λ entries. entries.items ≡ entries_told nodes.now (pairs_of names.items)) }
+{
     let mut entries = Vec::with_capacity(alloc, names.len())?;
     for entry in names {
         let name = String::from_str(alloc, entry.name.as_str())?;
@@ -66,14 +75,15 @@ pub fn map_dir_entry(
 }
 
 impl Tree {
-    /// The entries of a directory, for its stream.
+    /// The entries of a directory, for its stream, ascending by their names' bytes.
     ///
     /// # Errors
     ///
     /// The code of the planned fault, if one is planned, which is then gone and counted; no other.
     pub fn list(&mut self, dir: &Dir) -> FilesystemResult<DirectoryEntries>
         requires { IsDirOf self.old dir.now }
-        ensures { Meets self.old self.new result (listed self.old dir.now) }
+        ensures meets { Meets self.old self.new result (listed self.old dir.now) }
+        ensures ascending { IfOk result (λ entries. Ascend entries) }
     {
         if let Some(kind) = self.planned() {
             self.meet_fault();

@@ -1,4 +1,6 @@
-use Rattle.std.specs.Prelude.{String, string_bytes}
+use Rattle.std.specs.Prelude.{String, string_bytes, map}
+use Rattle.std.specs.List.Sorted.{IsStrictlySortedBy}
+use Rattle.std.specs.List.{AllByRecursion}
 use Rattle.std.proofs.Common.{◌≡◌, ℕ, suc, List, [], ◌∷◌, Some, None, Bool, true, false, cond, refl, ap, length}
 use Rattle.std.specs.declared.cmp.Ordering.{Ordering}
 use Rattle.std.specs.declared.cmp.Ordering.TheVariants.{Less, Equal, Greater}
@@ -6,7 +8,7 @@ use Rattle.std.specs.Ordering.{nat_cmp, match_ordering}
 use Rattle.std.specs.Cmp.Lexicographic.{slice_cmp}
 use Rattle.std.specs.BTreeMap.{is_at, insert_entry}
 use Rattle.std.specs.Map.{lookup, remove_entry, set_value}
-use Rattle.wasi_fs_nodes.specs.Names.{entry_of, with_entry, without_entry, with_other, entries_of_map}
+use Rattle.wasi_fs_nodes.specs.Names.{IsBelow, IsAscending, entry_of, with_entry, without_entry, with_other, entries_of_map}
 
 pub find_bytes : {A : Type 0} (es : List (String A × ℕ)) (q : List ℕ) → entry_of (entries_of_map es) q ≡ lookup (is_at (λ k. slice_cmp nat_cmp q (string_bytes k))) es
 find_bytes [] q = refl
@@ -55,3 +57,13 @@ absent_same (e ∷ es) q v h =
       | true ↦ λ k. cc
       | false ↦ λ k. ap (λ t. e ∷ t) (absent_same es q v k)
     ] h
+
+-- ---- in order
+below_bytes : {A : Type 0} (es : List (String A × ℕ)) (k : List ℕ) → AllByRecursion (λ (y : String A). slice_cmp nat_cmp k (string_bytes y) ≡ Less) (map (λ e. e.0) es) → IsBelow k (entries_of_map es)
+below_bytes [] k h = tt
+below_bytes (e ∷ es) k h = (h.0, below_bytes es k h.1)
+
+pub ascending_bytes : {A : Type 0} (es : List (String A × ℕ)) → IsStrictlySortedBy (λ (a b : String A). slice_cmp nat_cmp (string_bytes a) (string_bytes b)) (map (λ e. e.0) es) → IsAscending (entries_of_map es)
+unfolding IsStrictlySortedBy
+ascending_bytes [] h = tt
+ascending_bytes (e ∷ es) h = (below_bytes es (string_bytes e.0) h.0, ascending_bytes es h.1)

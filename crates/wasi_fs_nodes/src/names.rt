@@ -1,5 +1,5 @@
 ghost use Rattle.std.specs.Prelude.{◌≡◌, [], IfOk, OnOk, OnErr, IsTrue, ◌↔◌};
-ghost use Rattle.wasi_fs_nodes.specs.Names.{has_no_names, entry_of, with_entry, without_entry, with_other};
+ghost use Rattle.wasi_fs_nodes.specs.Names.{IsAscending, has_no_names, entry_of, with_entry, without_entry, with_other};
 ghost use Rattle.wasi_fs_nodes.specs.Stats.{pairs_of};
 
 use crate::stats::Entry;
@@ -69,7 +69,8 @@ impl Names {
 
     /// A copy of the names in their order, each with its node.
     pub(crate) fn list(&self, alloc: Global) -> Result<Vec<Entry>, AllocError>
-        ensures { IfOk result (λ entries. pairs_of entries.items ≡ self.now) }
+        ensures entries { IfOk result (λ entries. pairs_of entries.items ≡ self.now) }
+        ensures ascending { IfOk result (λ entries. IsAscending (pairs_of entries.items)) }
     {
         let mut entries = Vec::with_capacity(alloc, self.map.len())?;
         for (name, node) in self.map.iter() {

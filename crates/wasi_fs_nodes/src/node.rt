@@ -1,5 +1,5 @@
 ghost use Rattle.std.specs.Prelude.{◌≡◌, ◌+◌, ◌-◌, ◌<◌, ◌≤◌, ◌^◌, length, take, drop, None, Some, IfOk, OnOk, OnErr, MatchOption};
-ghost use Rattle.wasi_fs_nodes.specs.Names.{entry_of, has_no_names};
+ghost use Rattle.wasi_fs_nodes.specs.Names.{IsAscending, entry_of, has_no_names};
 ghost use Rattle.wasi_fs_nodes.specs.Nodes.{kind_of, names_in, parent_in, bytes_in, text_in, size_in, all_at, times_with};
 ghost use Rattle.wasi_fs_nodes.specs.Stats.{pairs_of};
 ghost use Rattle.wasi_fs_nodes.specs.Bodies.{body_with_name, body_with_other, body_with_parent, body_without_name, body_written, body_resized};
@@ -102,7 +102,8 @@ impl Body {
 
     /// A copy of the names in their order; a file and a link have none.
     pub(crate) fn list(&self, alloc: Global) -> Result<Vec<Entry>, AllocError>
-        ensures { IfOk result (λ entries. pairs_of entries.items ≡ names_in self.now) }
+        ensures entries { IfOk result (λ entries. pairs_of entries.items ≡ names_in self.now) }
+        ensures ascending { IfOk result (λ entries. IsAscending (pairs_of entries.items)) }
     {
         match self {
             Body::File(_) => Ok(Vec::new(alloc)),

@@ -1,5 +1,5 @@
 ghost use Rattle.std.specs.Prelude.{◌≡◌, ◌<◌, ◌≤◌, length, take, drop, Some, None, IfOk, OnOk, IfSome, MatchOption};
-ghost use Rattle.wasi_fs_nodes.specs.Names.{has_no_names};
+ghost use Rattle.wasi_fs_nodes.specs.Names.{IsAscending, has_no_names};
 ghost use Rattle.wasi_fs_nodes.specs.Nodes.{names_at, kind_at, is_directory, entry_at, parent_at, links_of, total_bytes, is_removed, is_below, bytes_at, text_at};
 ghost use Rattle.wasi_fs_nodes.specs.Shape.{IsRooted, NamesNodes};
 ghost use Rattle.wasi_fs_nodes.specs.Stats.{stat_at, pairs_of};
@@ -203,7 +203,8 @@ impl Nodes {
     /// A copy of the names in a directory, ascending by their bytes, each with its node. A file and
     /// a link have none.
     pub fn list(&self, dir: u64) -> Result<Vec<Entry>, OutOfMemory>
-        ensures { IfOk result (λ entries. pairs_of entries.items ≡ names_at self.now dir) }
+        ensures entries { IfOk result (λ entries. pairs_of entries.items ≡ names_at self.now dir) }
+        ensures ascending { IfOk result (λ entries. IsAscending (pairs_of entries.items)) }
     {
         match self.rows.get(dir as usize) {
             None => Ok(Vec::new(self.alloc)),

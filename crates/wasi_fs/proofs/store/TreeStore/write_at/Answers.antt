@@ -1,6 +1,4 @@
-use Rattle.std.proofs.Common.{◌≡◌, ◌∙◌, None, length, sym}
-use Rattle.wasi_fs.specs.Stores.{write_of}
-use Rattle.wasi_fs.specs.TreeStore.{tree_told, bytes_of_file}
+use Rattle.std.proofs.Common.{◌≡◌, None}
 use Rattle.wasi_fs.proofs.StoreFacts.{is_written}
 use Rattle.wasi_fs.proofs.store.TreeStore.write_at.Goals as goal
 
