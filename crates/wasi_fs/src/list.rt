@@ -3,7 +3,7 @@ ghost use Rattle.wasi_fs_nodes.specs.Nodes.{kind_at, names_at};
 ghost use Rattle.wasi_fs_nodes.specs.Stats.{pairs_of};
 ghost use Rattle.wasi_fs.specs.Listing.{Ascend, type_of_node, entries_told, listed, IsMapped};
 ghost use Rattle.wasi_fs.specs.Outcome.{Meets};
-ghost use Rattle.wasi_fs.specs.Trees.{IsDirOf};
+ghost use Rattle.wasi_fs.specs.Trees.{IsDirOf, KeepsDescriptors};
 
 use crate::descriptor::Dir;
 use crate::entries::{DirectoryEntries, DirectoryEntry};
@@ -84,6 +84,7 @@ impl Tree {
         requires { IsDirOf self.old dir.now }
         ensures meets { Meets self.old self.new result (listed self.old dir.now) }
         ensures ascending { IfOk result (λ entries. Ascend entries) }
+        ensures kept { KeepsDescriptors self.old self.new }
     {
         if let Some(kind) = self.planned() {
             self.meet_fault();
