@@ -26,7 +26,8 @@ use Rattle.wasi_host.specs.Run.{Standing, Sharing, is_shared, Rule, IsRun, at_nu
 use Rattle.wasi_host.specs.Transcript.{ShowsRun, transcript, told_after_run, with_output, outputs_of, output_lines, with_name, output_names, names_end}
 use Rattle.wasi_host.specs.Owned.{IsOwn, own_new}
 use Rattle.wasi_host.specs.Shown.{standing_at, standing_where, standing_in, standing_with, shares_in, capacity_in, ended_in, shown, cond_same, get_set, shown_put, nothing_stands, declare_shown}
-use Rattle.wasi_host.specs.Rules.{IsGuest, OwnedBy, owned_put, Next, call_next, capture_next, deliver_next}
+use Rattle.wasi_host.specs.Rules.{IsGuest, OwnedBy, owned_put, Next, call_next}
+use Rattle.wasi_host.specs.Deliveries.{capture_next, deliver_next}
 use Rattle.wasi_host.specs.Steps.{names_step, names_new, places_step, within, first_of, second_of}
 use Rattle.wasi_host.specs.Lines.{are_lines}
 

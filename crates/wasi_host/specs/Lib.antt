@@ -11,7 +11,10 @@ pub mod Laws
 pub mod Steps
 pub mod Shown
 pub mod Owned
+pub mod SharedCalls
+pub mod StreamCalls
 pub mod Rules
+pub mod Deliveries
 pub mod Lines
 pub mod Headline
 pub mod Reach

@@ -36,6 +36,17 @@ IsUnder (Pollable wait) parent = parent ≡ Some Reader
 IsUnder Always parent = (it : Standard) × (parent ≡ Some (Writer it))
 IsUnder other parent = ⊥
 
+-- nothing stands under a polled input, and nothing under a pollable
+pub polled_alone : (wait : Option ℕ) (child : Entry) → IsUnder child (Some (Polled wait)) → ⊥
+polled_alone wait (Pollable w) under = cc
+polled_alone wait Always under = let e = under.1 in cc
+polled_alone wait other under = under
+
+pub pollable_alone : (wait : Option ℕ) (child : Entry) → IsUnder child (Some (Pollable wait)) → ⊥
+pollable_alone wait (Pollable w) under = cc
+pollable_alone wait Always under = let e = under.1 in cc
+pollable_alone wait other under = under
+
 pub record IsOwn (own : Own) (live : FinSet nat_cmp) : Type 0 where
   pub table : IsTable own.table
   pub parented : (n : ℕ) (held : Held Entry) → held_at own.table n ≡ Some held → IsParented held.entry held.parent
