@@ -1,0 +1,379 @@
+//! Each call is a step, with its numbers and bytes.
+
+ghost use Rattle.std.specs.Prelude.{◌≡◌, length, IfOk};
+
+use super::{bad_line, check_bytes, parsed};
+use crate::{Call, ExitStatus, Line, OutputCall, Script};
+use std::alloc::Global;
+use std::process::Abort;
+use std::test::Fail;
+
+#[test]
+fn each_call_is_a_step(rt: HostRuntime) -> Result<(), Fail> {
+    let text = "# every form\n\nguest 007 shared\ncall 7 get-stdin\ncall 7 async-stdin\n\
+                call 7 read 0 18446744073709551615\ncall 7 skip 00 4\n#\ncall 7 poll-read 4 0\n\
+                capture\ndeliver\ncall 7 subscribe 007\ncall 7 ready 18446744073709551615\n\
+                call 7 block 0\ncall 7 drop 4294967296\ncapacity 7 1";
+    assert_eq!(rt; bad_line(&rt, rt.alloc(), text)?, Some(16));
+    let text = "guest 7 shared\ncapacity 7 1\ncapacity 7 00000000000000065536\ncall 7 exit ok\n\
+                call 7 exit err\ncall 7 exit-code 255";
+    let script = parsed(&rt, rt.alloc(), text)?;
+    assert_eq!(rt; script.len(), 6);
+    let steps = script.steps();
+    assert!(rt;
+        matches!(
+            steps[1],
+            Line::Capacity {
+                guest: 7,
+                capacity: 1
+            }
+        )
+    );
+    assert!(rt;
+        matches!(
+            steps[2],
+            Line::Capacity {
+                guest: 7,
+                capacity: 65536
+            }
+        )
+    );
+    assert!(rt;
+        matches!(
+            steps[3],
+            Line::Call {
+                guest: 7,
+                call: Call::Exit {
+                    status: ExitStatus::Ok
+                }
+            }
+        )
+    );
+    assert!(rt;
+        matches!(
+            steps[4],
+            Line::Call {
+                guest: 7,
+                call: Call::Exit {
+                    status: ExitStatus::Err
+                }
+            }
+        )
+    );
+    assert!(rt;
+        matches!(
+            steps[5],
+            Line::Call {
+                guest: 7,
+                call: Call::ExitCode { code: 255 }
+            }
+        )
+    );
+    Ok(())
+}
+
+// The steps of a guest's calls.
+fn calls(rt: &impl Abort, alloc: Global, text: &str, count: u64) -> Result<Script, Fail> {
+    let text = format!(in alloc; "guest 7 shared\n{text}")?;
+    let script = parsed(rt, alloc, &text)?;
+    assert_eq!(rt; script.len(), count);
+    Ok(script)
+}
+
+#[test]
+fn calls_on_inputs_are_steps(rt: HostRuntime) -> Result<(), Fail> {
+    let text = "call 7 get-stdin\ncall 7 async-stdin\ncall 7 read 0 18446744073709551615\n\
+                call 7 skip 00 4\n#\ncall 7 poll-read 4 0\ncapture\ndeliver";
+    let script = calls(&rt, rt.alloc(), text, 8)?;
+    let steps = script.steps();
+    assert_eq!(rt; steps.len(), 8);
+    assert!(rt;
+        matches!(
+            steps[1],
+            Line::Call {
+                guest: 7,
+                call: Call::GetStdin
+            }
+        )
+    );
+    assert!(rt;
+        matches!(
+            steps[2],
+            Line::Call {
+                guest: 7,
+                call: Call::AsyncStdin
+            }
+        )
+    );
+    assert!(rt;
+        matches!(
+            steps[3],
+            Line::Call {
+                guest: 7,
+                call: Call::Read {
+                    number: 0,
+                    size: 18446744073709551615
+                }
+            }
+        )
+    );
+    assert!(rt;
+        matches!(
+            steps[4],
+            Line::Call {
+                guest: 7,
+                call: Call::Skip { number: 0, size: 4 }
+            }
+        )
+    );
+    assert!(rt;
+        matches!(
+            steps[5],
+            Line::Call {
+                guest: 7,
+                call: Call::PollRead { number: 4, room: 0 }
+            }
+        )
+    );
+    assert!(rt; matches!(steps[6], Line::Capture));
+    assert!(rt; matches!(steps[7], Line::Deliver));
+    Ok(())
+}
+
+#[test]
+fn calls_on_entries_are_steps(rt: HostRuntime) -> Result<(), Fail> {
+    let text = "call 7 subscribe 007\ncall 7 ready 18446744073709551615\ncall 7 block 0\n\
+                call 7 drop 4294967296";
+    let script = calls(&rt, rt.alloc(), text, 5)?;
+    let steps = script.steps();
+    assert_eq!(rt; steps.len(), 5);
+    assert!(rt;
+        matches!(
+            steps[1],
+            Line::Call {
+                guest: 7,
+                call: Call::Subscribe { number: 7 }
+            }
+        )
+    );
+    assert!(rt;
+        matches!(
+            steps[2],
+            Line::Call {
+                guest: 7,
+                call: Call::Ready {
+                    number: 18446744073709551615
+                }
+            }
+        )
+    );
+    assert!(rt;
+        matches!(
+            steps[3],
+            Line::Call {
+                guest: 7,
+                call: Call::Block { number: 0 }
+            }
+        )
+    );
+    assert!(rt;
+        matches!(
+            steps[4],
+            Line::Call {
+                guest: 7,
+                call: Call::Drop { number: 4294967296 }
+            }
+        )
+    );
+    Ok(())
+}
+
+#[test]
+fn outputs_are_asked_for(rt: HostRuntime) -> Result<(), Fail> {
+    let text = "call 7 get-stdout\ncall 7 get-stderr\ncall 7 async-stdout\ncall 7 async-stderr";
+    let script = calls(&rt, rt.alloc(), text, 5)?;
+    let steps = script.steps();
+    assert_eq!(rt; steps.len(), 5);
+    assert!(rt;
+        matches!(
+            steps[1],
+            Line::Call {
+                guest: 7,
+                call: Call::GetStdout
+            }
+        )
+    );
+    assert!(rt;
+        matches!(
+            steps[2],
+            Line::Call {
+                guest: 7,
+                call: Call::GetStderr
+            }
+        )
+    );
+    assert!(rt;
+        matches!(
+            steps[3],
+            Line::Call {
+                guest: 7,
+                call: Call::AsyncStdout
+            }
+        )
+    );
+    assert!(rt;
+        matches!(
+            steps[4],
+            Line::Call {
+                guest: 7,
+                call: Call::AsyncStderr
+            }
+        )
+    );
+    Ok(())
+}
+
+#[test]
+fn calls_on_outputs_are_steps(rt: HostRuntime) -> Result<(), Fail> {
+    let text = "call 7 check-write 18446744073709551615\ncall 7 flush 008\ncall 7 poll-flush 9";
+    let script = calls(&rt, rt.alloc(), text, 4)?;
+    let steps = script.steps();
+    assert_eq!(rt; steps.len(), 4);
+    assert!(rt;
+        matches!(
+            steps[1],
+            Line::Call {
+                guest: 7,
+                call: Call::OnOutput {
+                    number: 18446744073709551615,
+                    call: OutputCall::CheckWrite
+                }
+            }
+        )
+    );
+    assert!(rt;
+        matches!(
+            steps[2],
+            Line::Call {
+                guest: 7,
+                call: Call::OnOutput {
+                    number: 8,
+                    call: OutputCall::Flush
+                }
+            }
+        )
+    );
+    assert!(rt;
+        matches!(
+            steps[3],
+            Line::Call {
+                guest: 7,
+                call: Call::OnOutput {
+                    number: 9,
+                    call: OutputCall::PollFlush
+                }
+            }
+        )
+    );
+    Ok(())
+}
+
+// A script of a guest and its one call.
+fn only_call(rt: &impl Abort, alloc: Global, call: &str) -> Result<Script, Fail>
+    ensures { IfOk result (λ script. length script ≡ 2) }
+{
+    let text = format!(in alloc; "guest 7 empty\ncall 7 {call}")?;
+    let script = parsed(rt, alloc, &text)?;
+    assert_eq!(rt; script.len(), 2, "{call}");
+    Ok(script)
+}
+
+fn check_write(
+    rt: &impl Abort,
+    alloc: Global,
+    call: &str,
+    number: u64,
+    list: &[u8],
+) -> Result<(), Fail> {
+    let script = only_call(rt, alloc, call)?;
+    match script.line(1) {
+        Line::Call {
+            guest: 7,
+            call: Call::OnOutput {
+                number: given,
+                call: OutputCall::Write { bytes },
+            },
+        } => {
+            assert_eq!(rt; *given, number);
+            check_bytes(rt, alloc, bytes, list)
+        }
+        _ => panic!(rt; "{call}"),
+    }
+}
+
+#[test]
+fn a_write_has_its_bytes(rt: HostRuntime) -> Result<(), Fail> {
+    check_write(&rt, rt.alloc(), "write 0 -", 0, &[])?;
+    check_write(&rt, rt.alloc(), "write 03 00fFaB7f", 3, &[0, 255, 171, 127])?;
+    check_write(
+        &rt,
+        rt.alloc(),
+        "write 18446744073709551615 003*0A",
+        18446744073709551615,
+        &[10, 10, 10],
+    )
+}
+
+fn check_poll_write(
+    rt: &impl Abort,
+    alloc: Global,
+    call: &str,
+    number: u64,
+    list: &[u8],
+) -> Result<(), Fail> {
+    let script = only_call(rt, alloc, call)?;
+    match script.line(1) {
+        Line::Call {
+            guest: 7,
+            call: Call::OnOutput {
+                number: given,
+                call: OutputCall::PollWrite { bytes },
+            },
+        } => {
+            assert_eq!(rt; *given, number);
+            check_bytes(rt, alloc, bytes, list)
+        }
+        _ => panic!(rt; "{call}"),
+    }
+}
+
+#[test]
+fn a_polled_write_has_its_bytes(rt: HostRuntime) -> Result<(), Fail> {
+    check_poll_write(&rt, rt.alloc(), "poll-write 4 -", 4, &[])?;
+    check_poll_write(&rt, rt.alloc(), "poll-write 0 616263", 0, b"abc")?;
+    check_poll_write(&rt, rt.alloc(), "poll-write 1 2*fe", 1, &[254, 254])
+}
+
+// The bytes of a call have no limit of their own, and those of a declared stream have one.
+#[test]
+fn a_write_is_longer_than_a_stream(rt: HostRuntime) -> Result<(), Fail> {
+    let mut digits = String::new(rt.alloc());
+    for _ in 0..1048577u32 {
+        digits.push_str("5a")?;
+    }
+    let call = format!(in rt.alloc(); "write 0 {digits}")?;
+    let script = only_call(&rt, rt.alloc(), &call)?;
+    match script.line(1) {
+        Line::Call {
+            guest: 7,
+            call: Call::OnOutput {
+                number: 0,
+                call: OutputCall::Write { bytes },
+            },
+        } => assert_eq!(rt; bytes.len(), 1048577),
+        _ => panic!(rt; "no write"),
+    }
+    let pipe = format!(in rt.alloc(); "pipe P {digits}")?;
+    assert_eq!(rt; bad_line(&rt, rt.alloc(), &pipe)?, Some(1));
+    Ok(())
+}
