@@ -1,21 +1,28 @@
 -- Which scripts are valid, and the steps that they stand for.
 use Rattle.std.specs.Prelude.{◌≡◌, ℕ, ◌+◌, Bool, true, false, cond, not, ◌&&◌, nat_eq, nat_le, nat_lt, List, [], ◌∷◌, ◌++◌, length, Option, Some, None, codes}
-use Rattle.std.specs.List.{slice_split}
-use Rattle.std.specs.Map.{lookup}
-use Rattle.std.specs.Option.{is_some, option_map}
+use Rattle.std.specs.List.{list_any, slice_split}
+use Rattle.std.specs.Option.{option_map}
 use Rattle.std.specs.Str.{bytes_eq}
 use Rattle.wasi_script.specs.Fields.{words_of, guest_of, number_of, capacity_of, room_of, exit_code_of, is_at_end, with_first, with_last}
 use Rattle.wasi_script.specs.Name.{name_of}
 use Rattle.wasi_script.specs.Bytes.{byte_string_of, declared_bytes_of}
 use Rattle.wasi_script.specs.Plans.{read_plan_of, write_plan_of}
-pub use Rattle.wasi_script.specs.declared.streams.Direction.{Direction}
-pub use Rattle.wasi_script.specs.declared.streams.Direction.TheVariants.{Inward, Outward}
 use Rattle.wasi_base.specs.declared.sink.SinkPlan.{SinkPlan}
 use Rattle.wasi_script.specs.declared.lines.Line.{Line}
 use Rattle.wasi_script.specs.declared.lines.Line.TheVariants as line
+use Rattle.wasi_script.specs.declared.lines.InputDeclaration.TheVariants as input_declaration
+use Rattle.wasi_script.specs.declared.lines.OutputDeclaration.{OutputDeclaration}
+use Rattle.wasi_script.specs.declared.lines.OutputDeclaration.TheVariants as output_declaration
+use Rattle.wasi_script.specs.declared.lines.Setting.{Setting}
+use Rattle.wasi_script.specs.declared.lines.Setting.TheVariants as setting
+use Rattle.wasi_script.specs.declared.lines.WorkerTurn.TheVariants as turn
+use Rattle.wasi_script.specs.declared.lines.Standard.TheVariants as standard
+use Rattle.wasi_script.specs.declared.lines.Access.TheVariants as access
+use Rattle.wasi_script.specs.declared.lines.EntryCall.{EntryCall}
+use Rattle.wasi_script.specs.declared.lines.EntryCall.TheVariants as on
+use Rattle.wasi_script.specs.declared.lines.OwnCall.TheVariants as own
 use Rattle.wasi_script.specs.declared.lines.Call.{Call}
 use Rattle.wasi_script.specs.declared.lines.Call.TheVariants as call
-use Rattle.wasi_script.specs.declared.lines.OutputCall.TheVariants as on_output
 use Rattle.wasi_script.specs.declared.lines.Input.{Input}
 use Rattle.wasi_script.specs.declared.lines.Input.TheVariants as input
 use Rattle.wasi_script.specs.declared.lines.Output.{Output}
@@ -54,71 +61,69 @@ output_of word =
 abbrev pub exit_of : List ℕ → Option ExitStatus
 exit_of word = cond (bytes_eq word (codes "ok")) (Some exit.Ok) (cond (bytes_eq word (codes "err")) (Some exit.Err) None)
 
--- the calls that write bytes, those on inputs, those on outputs, and those on any entry and on none
-abbrev pub write_calls : List (Form Call)
-write_calls =
-    (codes "write", with_first number_of (λ number. with_last byte_string_of (λ bytes. call.OnOutput number (on_output.Write bytes))))
-    ∷ (codes "poll-write", with_first number_of (λ number. with_last byte_string_of (λ bytes. call.OnOutput number (on_output.PollWrite bytes))))
+-- the calls that open a standard stream, those on an entry, and the others
+abbrev pub open_calls : List (Form Call)
+open_calls =
+    (codes "get-stdin", without_fields (call.Open standard.Input access.Plain))
+    ∷ (codes "get-stdout", without_fields (call.Open standard.Output access.Plain))
+    ∷ (codes "get-stderr", without_fields (call.Open standard.Error access.Plain))
+    ∷ (codes "async-stdin", without_fields (call.Open standard.Input access.Polled))
+    ∷ (codes "async-stdout", without_fields (call.Open standard.Output access.Polled))
+    ∷ (codes "async-stderr", without_fields (call.Open standard.Error access.Polled))
     ∷ []
 
-abbrev pub input_calls : List (Form Call)
-input_calls =
-    (codes "get-stdin", without_fields call.GetStdin)
-    ∷ (codes "async-stdin", without_fields call.AsyncStdin)
-    ∷ (codes "read", with_first number_of (λ number. with_last number_of (call.Read number)))
-    ∷ (codes "skip", with_first number_of (λ number. with_last number_of (call.Skip number)))
-    ∷ (codes "poll-read", with_first number_of (λ number. with_last number_of (call.PollRead number)))
-    ∷ []
+-- a call on the entry of a number, without more fields and with one
+abbrev pub on_number : EntryCall → List (List ℕ) → Option Call
+on_number it = with_last number_of (λ number. call.On number it)
 
-abbrev pub output_calls : List (Form Call)
-output_calls =
-    (codes "get-stdout", without_fields call.GetStdout)
-    ∷ (codes "get-stderr", without_fields call.GetStderr)
-    ∷ (codes "async-stdout", without_fields call.AsyncStdout)
-    ∷ (codes "async-stderr", without_fields call.AsyncStderr)
-    ∷ (codes "check-write", with_last number_of (λ number. call.OnOutput number on_output.CheckWrite))
-    ∷ (codes "flush", with_last number_of (λ number. call.OnOutput number on_output.Flush))
-    ∷ (codes "poll-flush", with_last number_of (λ number. call.OnOutput number on_output.PollFlush))
+abbrev pub on_number_with : {A : Type 0} → (List ℕ → Option A) → (A → EntryCall) → List (List ℕ) → Option Call
+on_number_with field it = with_first number_of (λ number. with_last field (λ value. call.On number (it value)))
+
+abbrev pub entry_calls : List (Form Call)
+entry_calls =
+    (codes "read", on_number_with number_of on.Read)
+    ∷ (codes "skip", on_number_with number_of on.Skip)
+    ∷ (codes "poll-read", on_number_with number_of on.PollRead)
+    ∷ (codes "check-write", on_number on.CheckWrite)
+    ∷ (codes "write", on_number_with byte_string_of on.Write)
+    ∷ (codes "flush", on_number on.Flush)
+    ∷ (codes "poll-write", on_number_with byte_string_of on.PollWrite)
+    ∷ (codes "poll-flush", on_number on.PollFlush)
+    ∷ (codes "subscribe", on_number on.Subscribe)
+    ∷ (codes "ready", on_number on.Ready)
+    ∷ (codes "block", on_number on.Block)
     ∷ []
 
 abbrev pub other_calls : List (Form Call)
 other_calls =
-    (codes "subscribe", with_last number_of call.Subscribe)
-    ∷ (codes "ready", with_last number_of call.Ready)
-    ∷ (codes "block", with_last number_of call.Block)
-    ∷ (codes "drop", with_last number_of call.Drop)
-    ∷ (codes "exit", with_last exit_of call.Exit)
-    ∷ (codes "exit-code", with_last exit_code_of call.ExitCode)
+    (codes "drop", with_last number_of call.Drop)
+    ∷ (codes "exit", with_last exit_of (λ status. call.Own (own.Exit status)))
+    ∷ (codes "exit-code", with_last exit_code_of (λ code. call.Own (own.ExitCode code)))
     ∷ []
 
 abbrev pub call_of : List (List ℕ) → Option Call
-call_of = meaning_by (write_calls ++ (input_calls ++ (output_calls ++ other_calls)))
+call_of = meaning_by (open_calls ++ (entry_calls ++ other_calls))
 
 -- the steps' fields
 abbrev pub pipe_of : List (List ℕ) → Option Line
-pipe_of = with_first name_of (λ name. with_last declared_bytes_of (line.Pipe name))
+pipe_of = with_first name_of (λ name. with_last declared_bytes_of (λ bytes. line.Input name (input_declaration.Pipe bytes)))
 
 abbrev pub in_file_of : List (List ℕ) → Option Line
-in_file_of = with_first name_of (λ name. with_first declared_bytes_of (λ bytes. with_last read_plan_of (line.InFile name bytes)))
+in_file_of = with_first name_of (λ name. with_first declared_bytes_of (λ bytes. with_last read_plan_of (λ plan. line.Input name (input_declaration.File bytes plan))))
 
 abbrev pub out_pipe_of : List (List ℕ) → Option Line
-out_pipe_of = with_first name_of (λ name. with_last room_of (line.OutPipe name))
+out_pipe_of = with_first name_of (λ name. with_last room_of (λ capacity. line.Output name (output_declaration.Pipe capacity)))
 
 -- a sink's name, room and plan
-abbrev pub sink_of : (List ℕ → ℕ → List SinkPlan → Line) → List (List ℕ) → Option Line
-sink_of make = with_first name_of (λ name. with_first room_of (λ room. with_last write_plan_of (make name room)))
-
-abbrev pub stdout_of : List (List ℕ) → Option Line
-stdout_of = with_first guest_of (λ guest. with_last output_of (line.Stdout guest))
-
-abbrev pub stderr_of : List (List ℕ) → Option Line
-stderr_of = with_first guest_of (λ guest. with_last output_of (line.Stderr guest))
+abbrev pub sink_of : (ℕ → List SinkPlan → OutputDeclaration) → List (List ℕ) → Option Line
+sink_of make = with_first name_of (λ name. with_first room_of (λ room. with_last write_plan_of (λ plan. line.Output name (make room plan))))
 
 abbrev pub guest_line_of : List (List ℕ) → Option Line
 guest_line_of = with_first guest_of (λ guest. with_last input_of (line.Guest guest))
 
-abbrev pub capacity_line_of : List (List ℕ) → Option Line
-capacity_line_of = with_first guest_of (λ guest. with_last capacity_of (line.Capacity guest))
+-- a guest, and a setting of it
+abbrev pub setting_of : {A : Type 0} → (List ℕ → Option A) → (A → Setting) → List (List ℕ) → Option Line
+setting_of field it = with_first guest_of (λ guest. with_last field (λ value. line.Configure guest (it value)))
 
 abbrev pub call_line_of : List (List ℕ) → Option Line
 call_line_of = with_first guest_of (λ guest fields. option_map (line.Call guest) (call_of fields))
@@ -129,19 +134,19 @@ stream_lines =
     (codes "pipe", pipe_of)
     ∷ (codes "infile", in_file_of)
     ∷ (codes "outpipe", out_pipe_of)
-    ∷ (codes "outfile", sink_of line.OutFile)
-    ∷ (codes "stdio", sink_of line.Stdio)
+    ∷ (codes "outfile", sink_of output_declaration.File)
+    ∷ (codes "stdio", sink_of output_declaration.Stdio)
     ∷ []
 
 abbrev pub other_lines : List (Form Line)
 other_lines =
     (codes "guest", guest_line_of)
-    ∷ (codes "stdout", stdout_of)
-    ∷ (codes "stderr", stderr_of)
-    ∷ (codes "capacity", capacity_line_of)
+    ∷ (codes "stdout", setting_of output_of setting.Stdout)
+    ∷ (codes "stderr", setting_of output_of setting.Stderr)
+    ∷ (codes "capacity", setting_of capacity_of setting.Capacity)
     ∷ (codes "call", call_line_of)
-    ∷ (codes "capture", without_fields line.Capture)
-    ∷ (codes "deliver", without_fields line.Deliver)
+    ∷ (codes "capture", without_fields (line.Worker turn.Capture))
+    ∷ (codes "deliver", without_fields (line.Worker turn.Deliver))
     ∷ []
 
 abbrev pub line_of : List (List ℕ) → Option Line
@@ -156,56 +161,38 @@ abbrev pub reading_of : List ℕ → Reading
 reading_of [] = Note
 reading_of (byte ∷ bytes) = cond (nat_eq byte 35) Note (step_or_invalid (line_of (words_of (byte ∷ bytes))))
 
--- what the lines so far declared, the streams in order, and which guests they let call
+-- what the lines so far declared, the streams' names in order, and which guests they let call
 pub record Names : Type 0 where
   pub is_guest : ℕ → Bool
   pub was_called : ℕ → Bool
-  pub streams : List (List ℕ × Direction)
+  pub inputs : List (List ℕ)
+  pub outputs : List (List ℕ)
 
 abbrev pub no_names : Names
-no_names = record { is_guest = λ number. false; was_called = λ number. false; streams = [] }
+no_names = record { is_guest = λ number. false; was_called = λ number. false; inputs = []; outputs = [] }
 
--- the direction of the stream of a name, if one is declared
-abbrev pub direction_of : Names → List ℕ → Option Direction
-direction_of names name = lookup (bytes_eq name) names.streams
-
-abbrev pub is_named : Names → List ℕ → Bool
-is_named names name = is_some (direction_of names name)
-
-abbrev pub is_inward : Option Direction → Bool
-is_inward None = false
-is_inward (Some Inward) = true
-is_inward (Some Outward) = false
-
-abbrev pub is_outward : Option Direction → Bool
-is_outward None = false
-is_outward (Some Inward) = false
-is_outward (Some Outward) = true
-
--- a declared input, and a declared output
-abbrev pub is_input : Names → List ℕ → Bool
-is_input names name = is_inward (direction_of names name)
-
-abbrev pub is_output : Names → List ℕ → Bool
-is_output names name = is_outward (direction_of names name)
+-- a name among others
+abbrev pub is_among : List ℕ → List (List ℕ) → Bool
+is_among name names = list_any (bytes_eq name) names
 
 -- a stream may be declared under a new name, while there are fewer than 64
 abbrev pub may_declare : Names → List ℕ → Bool
-may_declare names name = nat_lt (length names.streams) 64 && not (is_named names name)
+may_declare names name = nat_lt (length names.inputs + length names.outputs) 64 && (not (is_among name names.inputs) && not (is_among name names.outputs))
 
 -- a guest's input is none that a name says, or a declared one
 abbrev pub input_stands : Names → Input → Bool
-input_stands names input.Shared = true
-input_stands names input.Empty = true
-input_stands names input.Closed = true
-input_stands names (input.Named name) = is_input names name
+input_stands names (input.Named name) = is_among name names.inputs
+input_stands names other = true
 
 -- .. and so are its outputs
 abbrev pub output_stands : Names → Output → Bool
-output_stands names output.Empty = true
-output_stands names output.Sink = true
-output_stands names output.Closed = true
-output_stands names (output.Named name) = is_output names name
+output_stands names (output.Named name) = is_among name names.outputs
+output_stands names other = true
+
+abbrev pub setting_stands : Names → Setting → Bool
+setting_stands names (setting.Stdout it) = output_stands names it
+setting_stands names (setting.Stderr it) = output_stands names it
+setting_stands names (setting.Capacity capacity) = nat_le 1 capacity && nat_le capacity 65536
 
 -- lines say more of a guest before its first call
 abbrev pub may_set_up : Names → ℕ → Bool
@@ -213,44 +200,23 @@ may_set_up names guest = names.is_guest guest && not (names.was_called guest)
 
 -- a step may stand after these lines
 abbrev pub may_stand : Names → Line → Bool
-may_stand names (line.Pipe name bytes) = may_declare names name
-may_stand names (line.InFile name bytes plan) = may_declare names name
-may_stand names (line.OutPipe name capacity) = may_declare names name
-may_stand names (line.OutFile name room plan) = may_declare names name
-may_stand names (line.Stdio name room plan) = may_declare names name
-may_stand names (line.Guest guest input) = nat_lt guest 64 && (not (names.is_guest guest) && input_stands names input)
-may_stand names (line.Stdout guest output) = may_set_up names guest && output_stands names output
-may_stand names (line.Stderr guest output) = may_set_up names guest && output_stands names output
-may_stand names (line.Capacity guest capacity) = (nat_le 1 capacity && nat_le capacity 65536) && may_set_up names guest
-may_stand names (line.Call guest call) = names.is_guest guest
-may_stand names line.Capture = true
-may_stand names line.Deliver = true
+may_stand names (line.Input name it) = may_declare names name
+may_stand names (line.Output name it) = may_declare names name
+may_stand names (line.Guest guest it) = nat_lt guest 64 && (not (names.is_guest guest) && input_stands names it)
+may_stand names (line.Configure guest it) = may_set_up names guest && setting_stands names it
+may_stand names (line.Call guest it) = names.is_guest guest
+may_stand names (line.Worker it) = true
 
 abbrev pub also : ℕ → (ℕ → Bool) → ℕ → Bool
 also guest test number = cond (nat_eq number guest) true (test number)
 
-abbrev pub with_guest : Names → ℕ → Names
-with_guest names guest = record { is_guest = also guest names.is_guest; was_called = names.was_called; streams = names.streams }
-
-abbrev pub with_caller : Names → ℕ → Names
-with_caller names guest = record { is_guest = names.is_guest; was_called = also guest names.was_called; streams = names.streams }
-
-abbrev pub with_stream : Names → List ℕ → Direction → Names
-with_stream names name direction = record { is_guest = names.is_guest; was_called = names.was_called; streams = names.streams ++ (name, direction) ∷ [] }
-
 abbrev pub names_after : Names → Line → Names
-names_after names (line.Pipe name bytes) = with_stream names name Inward
-names_after names (line.InFile name bytes plan) = with_stream names name Inward
-names_after names (line.OutPipe name capacity) = with_stream names name Outward
-names_after names (line.OutFile name room plan) = with_stream names name Outward
-names_after names (line.Stdio name room plan) = with_stream names name Outward
-names_after names (line.Guest guest input) = with_guest names guest
-names_after names (line.Stdout guest output) = names
-names_after names (line.Stderr guest output) = names
-names_after names (line.Capacity guest capacity) = names
-names_after names (line.Call guest call) = with_caller names guest
-names_after names line.Capture = names
-names_after names line.Deliver = names
+names_after names (line.Input name it) = record names { inputs = names.inputs ++ name ∷ [] }
+names_after names (line.Output name it) = record names { outputs = names.outputs ++ name ∷ [] }
+names_after names (line.Guest guest it) = record names { is_guest = also guest names.is_guest }
+names_after names (line.Configure guest it) = names
+names_after names (line.Call guest it) = record names { was_called = also guest names.was_called }
+names_after names (line.Worker it) = names
 
 -- what a line of text is after these lines
 abbrev pub if_standing : Names → Reading → Reading

@@ -14,11 +14,13 @@ mod refusal;
 mod streams;
 
 pub use bytes::ByteString;
-pub use lines::{Call, ExitStatus, Input, Line, Output, OutputCall};
+pub use lines::{
+    Access, Call, EntryCall, ExitStatus, Input, InputDeclaration, Line, Output, OutputDeclaration, OwnCall,
+    Setting, Standard, WorkerTurn,
+};
 pub use name::Name;
 pub use parse::{Script, ScriptError, parse_script};
 pub use plan::{ReadPlan, WritePlan};
-pub use streams::Direction;
 
 #[cfg(test)]
 mod tests;

@@ -28,6 +28,57 @@ pub enum Output {
     Named(Name),
 }
 
+/// What a line says that an input of a name is.
+#[derive(Drop)]
+pub enum InputDeclaration {
+    /// `pipe NAME BYTES`: it gives these bytes, at most 1048576.
+    Pipe { bytes: ByteString },
+    /// `infile NAME BYTES PLAN`: a file of these bytes, at most 1048576, whose reads go by the
+    /// plan.
+    File { bytes: ByteString, plan: ReadPlan },
+}
+
+/// What a line says that an output of a name is.
+#[derive(Drop)]
+pub enum OutputDeclaration {
+    /// `outpipe NAME CAP`: it keeps what it takes, up to its capacity, at most 1048576 bytes.
+    Pipe { capacity: u64 },
+    /// `outfile NAME ROOM PLAN`: a file of so much room, at most 1048576 bytes, whose writes and
+    /// flushes go by the plan.
+    File { room: u64, plan: WritePlan },
+    /// `stdio NAME ROOM PLAN`: an output of the host's process, of so much room, at most 1048576
+    /// bytes, whose writes and flushes go by the plan.
+    Stdio { room: u64, plan: WritePlan },
+}
+
+/// What a line says of a guest before its first call.
+#[derive(Drop)]
+pub enum Setting {
+    /// `stdout G OUT`: where its standard output goes.
+    Stdout(Output),
+    /// `stderr G OUT`: where its standard error goes.
+    Stderr(Output),
+    /// `capacity G NUM`: the most entries that its table holds, from 1 to 65536.
+    Capacity(u32),
+}
+
+/// One of the three standard streams of a guest.
+#[derive(Clone, Copy, Debug, PartialEq, Eq, Drop)]
+pub enum Standard {
+    Input,
+    Output,
+    Error,
+}
+
+/// How a guest uses a standard stream that it opens.
+#[derive(Clone, Copy, Debug, PartialEq, Eq, Drop)]
+pub enum Access {
+    /// By calls that answer at once.
+    Plain,
+    /// By polls.
+    Polled,
+}
+
 /// How a guest says that it ends.
 #[derive(Clone, Copy, Debug, PartialEq, Eq, Drop)]
 pub enum ExitStatus {
@@ -35,120 +86,93 @@ pub enum ExitStatus {
     Err,
 }
 
-/// What a guest calls on an output stream.
+/// What a guest calls on the entry of a number.
 #[derive(Drop)]
-pub enum OutputCall {
+pub enum EntryCall {
+    /// `read N SIZE`: at most `size` bytes.
+    Read { size: u64 },
+    /// `skip N SIZE`: a read whose count of bytes alone is answered.
+    Skip { size: u64 },
+    /// `poll-read N ROOM`: one poll, for at most `room` bytes.
+    PollRead { room: u64 },
     /// `check-write N`: how many bytes one write may have.
     CheckWrite,
     /// `write N BYTES`: the bytes go out.
     Write { bytes: ByteString },
     /// `flush N`: what is kept back goes out.
     Flush,
-    /// `poll-write N BYTES`: one poll of a polled output, with these bytes.
+    /// `poll-write N BYTES`: one poll, with these bytes.
     PollWrite { bytes: ByteString },
-    /// `poll-flush N`: one poll of a polled output's flush.
+    /// `poll-flush N`: one poll of a flush.
     PollFlush,
+    /// `subscribe N`: a pollable of the stream.
+    Subscribe,
+    /// `ready N`: whether the pollable is ready.
+    Ready,
+    /// `block N`: one poll of the pollable's wait.
+    Block,
 }
 
-/// What a guest calls.
+/// What a guest calls on what it owns alone: on no entry and no stream.
 #[derive(Drop)]
-pub enum Call {
-    /// `get-stdin`: a number for the guest's standard input.
-    GetStdin,
-    /// `async-stdin`: a number for it that is read by polls.
-    AsyncStdin,
-    /// `read N SIZE`: at most `size` bytes of the stream `number`.
-    Read { number: u64, size: u64 },
-    /// `skip N SIZE`: a read whose count of bytes alone is answered.
-    Skip { number: u64, size: u64 },
-    /// `poll-read N ROOM`: one poll of the polled stream `number`, for at most `room` bytes.
-    PollRead { number: u64, room: u64 },
-    /// `get-stdout`: a number for the guest's standard output.
-    GetStdout,
-    /// `get-stderr`: a number for its standard error.
-    GetStderr,
-    /// `async-stdout`: a number for its standard output that is written by polls.
-    AsyncStdout,
-    /// `async-stderr`: a number for its standard error that is written by polls.
-    AsyncStderr,
-    /// A call on the output stream `number`.
-    OnOutput { number: u64, call: OutputCall },
-    /// `subscribe N`: a pollable of the stream `number`.
-    Subscribe { number: u64 },
-    /// `ready N`: whether the pollable `number` is ready.
-    Ready { number: u64 },
-    /// `block N`: one poll of the pollable `number`'s wait.
-    Block { number: u64 },
-    /// `drop N`: the entry `number` goes out of the guest's table.
-    Drop { number: u64 },
+pub enum OwnCall {
     /// `exit ok` or `exit err`.
     Exit { status: ExitStatus },
     /// `exit-code K`.
     ExitCode { code: u8 },
 }
 
-/// A step of a session.
+/// What a guest calls.
+#[derive(Drop)]
+pub enum Call {
+    /// `get-stdin`, `get-stdout`, `get-stderr`, and `async-stdin` and so on for the polled access: a
+    /// number for one of the guest's standard streams.
+    Open { stream: Standard, access: Access },
+    /// A call on the entry of a number.
+    On { number: u64, call: EntryCall },
+    /// `drop N`: the entry of a number goes out of the guest's table.
+    Drop { number: u64 },
+    /// A call on what the guest owns alone.
+    Own(OwnCall),
+}
+
+/// What the worker does.
+#[derive(Clone, Copy, Debug, PartialEq, Eq, Drop)]
+pub enum WorkerTurn {
+    /// `capture`: it takes over what a guest asked for.
+    Capture,
+    /// `deliver`: it reads what was captured, and hands it in.
+    Deliver,
+}
+
+/// A step of a session, by its kind.
 #[derive(Drop)]
 pub enum Line {
-    /// `pipe NAME BYTES`: there is an input that gives these bytes, at most 1048576.
-    Pipe {
+    /// There is an input of this name.
+    Input {
         name: Name,
-        bytes: ByteString,
+        input: InputDeclaration,
     },
-    /// `infile NAME BYTES PLAN`: there is an input over a file of these bytes, at most 1048576,
-    /// whose reads go by the plan.
-    InFile {
+    /// There is an output of this name.
+    Output {
         name: Name,
-        bytes: ByteString,
-        plan: ReadPlan,
-    },
-    /// `outpipe NAME CAP`: there is an output that keeps what it takes, up to its capacity, at most
-    /// 1048576 bytes.
-    OutPipe {
-        name: Name,
-        capacity: u64,
-    },
-    /// `outfile NAME ROOM PLAN`: there is an output over a file of so much room, at most 1048576
-    /// bytes, whose writes and flushes go by the plan.
-    OutFile {
-        name: Name,
-        room: u64,
-        plan: WritePlan,
-    },
-    /// `stdio NAME ROOM PLAN`: there is an output of the host's process, of so much room, at most
-    /// 1048576 bytes, whose writes and flushes go by the plan.
-    Stdio {
-        name: Name,
-        room: u64,
-        plan: WritePlan,
+        output: OutputDeclaration,
     },
     /// `guest G IN`: there is a guest of this number, from 0 to 63.
     Guest {
         guest: u32,
         input: Input,
     },
-    /// `stdout G OUT`: where the guest's standard output goes.
-    Stdout {
+    /// A line says more of a guest.
+    Configure {
         guest: u32,
-        output: Output,
-    },
-    /// `stderr G OUT`: where the guest's standard error goes.
-    Stderr {
-        guest: u32,
-        output: Output,
-    },
-    /// `capacity G NUM`: the most entries that the guest's table holds, from 1 to 65536.
-    Capacity {
-        guest: u32,
-        capacity: u32,
+        setting: Setting,
     },
     /// `call G ..`: the guest makes a call.
     Call {
         guest: u32,
         call: Call,
     },
-    /// `capture`: the worker takes over what a guest asked for.
-    Capture,
-    /// `deliver`: the worker reads what was captured, and hands it in.
-    Deliver,
+    /// The worker has its turn.
+    Worker(WorkerTurn),
 }

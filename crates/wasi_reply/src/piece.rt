@@ -18,7 +18,7 @@ pub struct Piece {
 
 impl Model for Piece {
     ghost use Rattle.std.specs.Prelude.{List, ℕ};
-    ghost use Rattle.wasi_host.specs.Piece.{bytes_in};
+    ghost use Rattle.wasi_reply.specs.Piece.{bytes_in};
 
     ghost Value = { List ℕ };
 

@@ -1,0 +1,74 @@
+ghost use Rattle.std.specs.Prelude.{◌≡◌};
+ghost use Rattle.wasi_reply.specs.Reply.{told_ends, ends};
+
+use crate::Piece;
+use wasi_base::{IoKind, TrapText};
+
+/// What a call tells its guest where it makes no entry, and a line of a script that is done.
+#[derive(Drop)]
+pub enum Told {
+    Ok,
+    /// The bytes that were handed out.
+    Bytes(Piece),
+    /// How many bytes were skipped, went out, or may be written at once.
+    Count(u64),
+    /// Whether a pollable is ready.
+    Truth(bool),
+    /// Not before the next delivery.
+    Pending,
+    /// The stream is at its end.
+    Closed,
+    /// The stream failed; of the shared input one reader is told.
+    Failed(IoKind),
+    /// The guest broke a rule, and ends.
+    Trap(TrapText),
+    /// The guest ends itself with this status.
+    Exit(u8),
+}
+
+/// What the worker tells of its turn.
+#[derive(Clone, Copy, Debug, PartialEq, Eq, Drop)]
+pub enum Worked {
+    /// The size that it captured, in bytes.
+    Captured(usize),
+    /// There was nothing to do.
+    Idle,
+    /// A delivery of so many bytes.
+    Gave(usize),
+    /// A delivery of the input's end.
+    End,
+    /// A delivery of a fault.
+    Fault(IoKind),
+}
+
+/// What a step replies.
+#[derive(Drop)]
+pub enum Reply {
+    /// The number of a new entry.
+    Handle(u32),
+    Told(Told),
+    /// The guest ended before.
+    Ended,
+    Worked(Worked),
+}
+
+impl Told {
+    /// Whether the guest that is told this ends.
+    pub fn ends(&self) -> bool
+        ensures { result ≡ told_ends self.now }
+    {
+        matches!(self, Told::Trap(_) | Told::Exit(_))
+    }
+}
+
+impl Reply {
+    /// Whether the guest that is told this ends.
+    pub fn ends(&self) -> bool
+        ensures { result ≡ ends self.now }
+    {
+        match self {
+            Reply::Told(told) => told.ends(),
+            Reply::Handle(_) | Reply::Ended | Reply::Worked(_) => false,
+        }
+    }
+}
