@@ -1,21 +1,23 @@
--- The kinds of a guest's entries, as its table tells them apart.
-use Rattle.std.specs.Prelude.{ℕ, Option, None}
+-- The kind of an entry, by which a table is asked for it.
+use Rattle.std.specs.Prelude.{ℕ}
+use Rattle.wasi_script.specs.declared.lines.Standard.{Standard}
+use Rattle.wasi_script.specs.declared.lines.Standard.TheVariants as standard
+use Rattle.wasi_host.specs.declared.entry.SharedEntry.{SharedEntry}
+use Rattle.wasi_host.specs.declared.entry.SharedEntry.TheVariants as shared
+use Rattle.wasi_host.specs.declared.entry.StreamEntry.{StreamEntry}
+use Rattle.wasi_host.specs.declared.entry.StreamEntry.TheVariants as stream
 use Rattle.wasi_host.specs.declared.entry.Entry.{Entry}
-use Rattle.wasi_host.specs.declared.entry.Entry.TheVariants.{Reader, Polled, Pollable, Writer, PolledWriter, Always}
+use Rattle.wasi_host.specs.declared.entry.Entry.TheVariants as entry
+
+abbrev pub stream_kind : Standard → StreamEntry → ℕ
+stream_kind to stream.Pollable = 2
+stream_kind standard.Input stream.Plain = 0
+stream_kind standard.Input stream.Polled = 1
+stream_kind to stream.Plain = 3
+stream_kind to stream.Polled = 4
 
 abbrev pub kind_of : Entry → ℕ
-kind_of Reader = 0
-kind_of (Polled wait) = 1
-kind_of (Pollable wait) = 2
-kind_of Always = 2
-kind_of (Writer standard) = 3
-kind_of (PolledWriter standard) = 4
-
--- what an entry waits for
-abbrev pub wait_in : Entry → Option ℕ
-wait_in Reader = None
-wait_in (Polled wait) = wait
-wait_in (Pollable wait) = wait
-wait_in Always = None
-wait_in (Writer standard) = None
-wait_in (PolledWriter standard) = None
+kind_of (entry.Shared shared.Reader) = 0
+kind_of (entry.Shared (shared.Polled wait)) = 1
+kind_of (entry.Shared (shared.Pollable wait)) = 2
+kind_of (entry.Stream to it) = stream_kind to it

@@ -1,11 +1,12 @@
 -- The host of a session: what each step replies, and what it leaves.
-use Rattle.std.specs.Prelude.{◌≡◌, ℕ, Bool, true, false, cond, List, [], ◌∷◌, ◌++◌, map, get_or, set, Option, Some, None, MatchOption, is_some, replicate}
+use Rattle.std.specs.Prelude.{◌≡◌, ℕ, Bool, true, false, cond, List, [], ◌∷◌, ◌++◌, map, get_or, set, Option, Some, None, MatchOption, is_some, replicate, unwrap_or}
 use Rattle.std.specs.Option.{option_map}
 use Rattle.std.specs.Str.{bytes_eq}
 use Rattle.std.specs.Map.{lookup, set_value}
 use Rattle.wasi_base.specs.Source.{Told, Given, Gives, gives, told_after}
 use Rattle.wasi_base.specs.Source as given
 use Rattle.wasi_base.specs.declared.sink.SinkPlan.{SinkPlan}
+use Rattle.wasi_base.specs.declared.trap_text.TrapText.TheVariants.{ResourceNotPresent}
 use Rattle.wasi_table.specs.Table.{new_table}
 use Rattle.wasi_streams.specs.Outputs.{Outlet}
 use Rattle.wasi_stdin.specs.declared.mode.Mode.TheVariants as mode
@@ -16,21 +17,41 @@ use Rattle.wasi_script.specs.declared.lines.Input.{Input}
 use Rattle.wasi_script.specs.declared.lines.Input.TheVariants as input
 use Rattle.wasi_script.specs.declared.lines.Output.{Output}
 use Rattle.wasi_script.specs.declared.lines.Output.TheVariants as output
-use Rattle.wasi_script.specs.declared.lines.OutputCall.{OutputCall}
+use Rattle.wasi_script.specs.declared.lines.Standard.{Standard}
+use Rattle.wasi_script.specs.declared.lines.Standard.TheVariants as standard
+use Rattle.wasi_script.specs.declared.lines.InputDeclaration.{InputDeclaration}
+use Rattle.wasi_script.specs.declared.lines.InputDeclaration.TheVariants as declared_in
+use Rattle.wasi_script.specs.declared.lines.OutputDeclaration.{OutputDeclaration}
+use Rattle.wasi_script.specs.declared.lines.OutputDeclaration.TheVariants as declared_out
+use Rattle.wasi_script.specs.declared.lines.Setting.{Setting}
+use Rattle.wasi_script.specs.declared.lines.Setting.TheVariants as setting
+use Rattle.wasi_script.specs.declared.lines.EntryCall.{EntryCall}
+use Rattle.wasi_script.specs.declared.lines.OwnCall.{OwnCall}
+use Rattle.wasi_script.specs.declared.lines.Call.{Call}
+use Rattle.wasi_script.specs.declared.lines.Call.TheVariants as call
+use Rattle.wasi_script.specs.declared.lines.WorkerTurn.{WorkerTurn}
+use Rattle.wasi_script.specs.declared.lines.WorkerTurn.TheVariants as turn
 use Rattle.wasi_script.specs.declared.lines.Line.{Line}
 use Rattle.wasi_script.specs.declared.lines.Line.TheVariants as line
-use Rattle.wasi_script.specs.declared.lines.Call.{Call}
 use Rattle.wasi_script.specs.Grammar.{Names, may_stand}
-use Rattle.wasi_script.specs.declared.streams.Direction.{Direction}
-use Rattle.wasi_script.specs.declared.streams.Direction.TheVariants.{Inward, Outward}
-use Rattle.wasi_host.specs.declared.entry.Standard.{Standard}
-use Rattle.wasi_host.specs.declared.entry.Standard.TheVariants as standard
-use Rattle.wasi_host.specs.declared.reply.Reply.{Reply}
-use Rattle.wasi_host.specs.declared.reply.Reply.TheVariants as reply
-use Rattle.wasi_host.specs.Reply.{ends}
-use Rattle.wasi_host.specs.declared.stream.Stream.{Stream}
-use Rattle.wasi_host.specs.declared.stream.Stream.TheVariants as stream
-use Rattle.wasi_host.specs.Calls.{Settings, Own, Called, Sending, Sent, shared_manner, stream_manner, call_rule, sending_of, sent}
+use Rattle.wasi_reply.specs.declared.reply.Told.TheVariants as told
+use Rattle.wasi_reply.specs.declared.reply.Worked.{Worked}
+use Rattle.wasi_reply.specs.declared.reply.Worked.TheVariants as worked
+use Rattle.wasi_reply.specs.declared.reply.Reply.{Reply}
+use Rattle.wasi_reply.specs.declared.reply.Reply.TheVariants as reply
+use Rattle.wasi_reply.specs.Reply.{ends}
+use Rattle.wasi_host.specs.declared.entry.Entry.{Entry}
+use Rattle.wasi_host.specs.declared.entry.Entry.TheVariants as entry
+use Rattle.wasi_host.specs.declared.entry.SharedEntry.{SharedEntry}
+use Rattle.wasi_host.specs.declared.entry.StreamEntry.{StreamEntry}
+use Rattle.wasi_host.specs.declared.stream.InStream.{InStream}
+use Rattle.wasi_host.specs.declared.stream.InStream.TheVariants as in_stream
+use Rattle.wasi_host.specs.declared.stream.OutStream.{OutStream}
+use Rattle.wasi_host.specs.declared.stream.OutStream.TheVariants as out_stream
+use Rattle.wasi_host.specs.declared.deed.Deed.{Deed}
+use Rattle.wasi_host.specs.declared.deed.Deed.TheVariants.{Make}
+use Rattle.wasi_host.specs.Deeds.{Own, Done, trapped, entry_at, act, dropped, apart}
+use Rattle.wasi_host.specs.Calls.{Settings, Owner, Doing, opened, asked, called, sent, owned}
 
 -- a guest: what configuration lines say of it, what it owns, and whether it was called and whether it ended
 pub record Guest : Type 0 where
@@ -43,62 +64,57 @@ pub record Guest : Type 0 where
 abbrev pub new_guest : Input → Guest
 new_guest input = record { settings = record { input = input; stdout = output.Empty; stderr = output.Empty }; own = record { table = new_table 1024 }; was_called = false; ended = false }
 
-abbrev pub with_capacity : ℕ → Guest → Guest
-with_capacity capacity guest = record { settings = guest.settings; own = record { table = new_table capacity }; was_called = guest.was_called; ended = guest.ended }
+abbrev pub configured : Setting → Guest → Guest
+configured (setting.Stdout it) guest = record { settings = record { input = guest.settings.input; stdout = it; stderr = guest.settings.stderr }; own = guest.own; was_called = guest.was_called; ended = guest.ended }
+configured (setting.Stderr it) guest = record { settings = record { input = guest.settings.input; stdout = guest.settings.stdout; stderr = it }; own = guest.own; was_called = guest.was_called; ended = guest.ended }
+configured (setting.Capacity capacity) guest = record { settings = guest.settings; own = record { table = new_table capacity }; was_called = guest.was_called; ended = guest.ended }
 
-abbrev pub with_stdout : Output → Guest → Guest
-with_stdout it guest = record { settings = record { input = guest.settings.input; stdout = it; stderr = guest.settings.stderr }; own = guest.own; was_called = guest.was_called; ended = guest.ended }
+-- ---- the declared streams with their names, each list in order of declaration
+abbrev pub Named : Type 0 → Type 0
+Named A = List (List ℕ × A)
 
-abbrev pub with_stderr : Output → Guest → Guest
-with_stderr it guest = record { settings = record { input = guest.settings.input; stdout = guest.settings.stdout; stderr = it }; own = guest.own; was_called = guest.was_called; ended = guest.ended }
-
-abbrev pub output_of : Settings → Standard → Output
-output_of settings standard.Output = settings.stdout
-output_of settings standard.Error = settings.stderr
-
--- the declared streams with their names, in order of declaration
-abbrev pub Streams : Type 0
-Streams = List (List ℕ × Stream)
-
-abbrev pub or_closed : Option Stream → Stream
-or_closed None = stream.Closed
-or_closed (Some it) = it
+pub record Streams : Type 0 where
+  pub inputs : Named InStream
+  pub outputs : Named OutStream
 
 -- the stream of a name, taken out, and what a call left of it, put back
-abbrev pub stream_of : List ℕ → Streams → Stream
-stream_of name streams = or_closed (lookup (bytes_eq name) streams)
+abbrev pub taken_out : {A : Type 0} → A → List ℕ → Named A → A
+taken_out none name named = unwrap_or (lookup (bytes_eq name) named) none
 
-abbrev pub put_stream : List ℕ → Stream → Streams → Streams
-put_stream name it streams = set_value (bytes_eq name) streams it
+abbrev pub put_back : {A : Type 0} → List ℕ → A → Named A → Named A
+put_back name it named = set_value (bytes_eq name) named it
 
--- the stream that an output is, and what a call left of it, put back: one that keeps nothing, a closed one, or a
--- declared one
-abbrev pub stream_to : Output → Streams → Stream
-stream_to output.Empty streams = stream.Sink
-stream_to output.Sink streams = stream.Sink
-stream_to output.Closed streams = stream.Closed
-stream_to (output.Named name) streams = stream_of name streams
+-- the stream that a guest reads: one at its end, or a declared one
+abbrev pub input_at : Input → Streams → InStream
+input_at (input.Named name) streams = taken_out in_stream.Closed name streams.inputs
+input_at other streams = in_stream.Closed
 
-abbrev pub put_output : Output → Stream → Streams → Streams
-put_output output.Empty it streams = streams
-put_output output.Sink it streams = streams
-put_output output.Closed it streams = streams
-put_output (output.Named name) it streams = put_stream name it streams
+abbrev pub put_input : Input → InStream → Streams → Streams
+put_input (input.Named name) it streams = record { inputs = put_back name it streams.inputs; outputs = streams.outputs }
+put_input other it streams = streams
 
-abbrev pub direction_of : Stream → Direction
-direction_of (stream.OutPipe pipe) = Outward
-direction_of (stream.OutFile out) = Outward
-direction_of (stream.Stdio out) = Outward
-direction_of other = Inward
+-- the stream that an output of a guest is: one that keeps nothing, a closed one, or a declared one
+abbrev pub output_at : Output → Streams → OutStream
+output_at output.Closed streams = out_stream.Closed
+output_at (output.Named name) streams = taken_out out_stream.Closed name streams.outputs
+output_at other streams = out_stream.Sink
 
--- the shared input, the guests by their numbers, and the streams
+abbrev pub put_output : Output → OutStream → Streams → Streams
+put_output (output.Named name) it streams = record { inputs = streams.inputs; outputs = put_back name it streams.outputs }
+put_output other it streams = streams
+
+-- ---- the host: the shared input, the guests by their numbers, and the streams
 pub record Host : Type 0 where
   pub shared : Shared
   pub guests : List (Option Guest)
   pub streams : Streams
 
 abbrev pub new_host : Host
-new_host = record { shared = record { mode = mode.Idle; held = []; captured = None; deliveries = 0 }; guests = replicate 64 None; streams = [] }
+new_host = record {
+  shared = record { mode = mode.Idle; held = []; captured = None; deliveries = 0 };
+  guests = replicate 64 None;
+  streams = record { inputs = []; outputs = [] };
+}
 
 -- the answer to a call, with what becomes of its guest, of the shared input and of the streams
 pub record Answered : Type 0 where
@@ -114,132 +130,141 @@ left_own reply own = cond (ends reply) (record { table = new_table own.table.cap
 abbrev pub left_guest : Guest → Reply → Own → Guest
 left_guest guest reply own = record { settings = guest.settings; own = left_own reply own; was_called = true; ended = ends reply }
 
--- a call on the shared input, and one on a stream or a closed input
-abbrev pub answer_shared : Guest → Called Shared → Streams → Answered
-answer_shared guest done streams = record { reply = done.reply; guest = left_guest guest done.reply done.own; shared = done.left; streams = streams }
+-- what a call did to its guest, and what it left of all else
+abbrev pub settled : Guest → Done → Shared → Streams → Answered
+settled guest done shared streams = record { reply = done.reply; guest = left_guest guest done.reply done.own; shared = shared; streams = streams }
 
-abbrev pub answer_stream : Guest → Called Stream → Shared → Streams → Answered
-answer_stream guest done shared streams = record { reply = done.reply; guest = left_guest guest done.reply done.own; shared = shared; streams = streams }
-
--- The rules of calls: on the shared input and on a stream, which output a call goes to, and what comes of it there. What
--- a call reaches is the host's matter, whatever its rules are.
+-- The rules of calls, by what their entry is on. What a call reaches, and how a deed is done, is the host's matter,
+-- whatever its rules are.
 pub record Rules : Type 0 where
-  pub asked : Call → Own → Shared → Called Shared
-  pub called : Call → Own → Stream → Called Stream
-  pub sending : Call → Own → Option Sending
-  pub sent : OutputCall → Stream → Sent
+  pub asked : EntryCall → Owner → SharedEntry → Shared → Doing Shared
+  pub called : EntryCall → Owner → StreamEntry → InStream → Doing InStream
+  pub sent : EntryCall → Standard → Owner → StreamEntry → OutStream → Doing OutStream
+  pub owned : OwnCall → Settings → Own → Deed
 
 abbrev pub the_rules : Rules
-the_rules = record { asked = call_rule shared_manner; called = call_rule stream_manner; sending = sending_of; sent = sent }
+the_rules = record { asked = asked; called = called; sent = sent; owned = owned }
 
--- by where the guest's standard input comes from
-abbrev pub answer_from : Rules → Input → Call → Guest → Shared → Streams → Answered
-answer_from rules input.Shared call guest shared streams = answer_shared guest (rules.asked call guest.own shared) streams
-answer_from rules input.Empty call guest shared streams = answer_stream guest (rules.called call guest.own stream.Closed) shared streams
-answer_from rules input.Closed call guest shared streams = answer_stream guest (rules.called call guest.own stream.Closed) shared streams
-answer_from rules (input.Named name) call guest shared streams = let done = rules.called call guest.own (stream_of name streams) in answer_stream guest done shared (put_stream name done.left streams)
+-- a call on an entry of the shared input, on one of the guest's input, and on one of its outputs
+abbrev pub on_shared : Doing Shared → Guest → Streams → Answered
+on_shared it guest streams = settled guest (act it.deed guest.own) it.left streams
 
--- a call on an output
-abbrev pub answer_output : Guest → Output → Sent → Shared → Streams → Answered
-answer_output guest to done shared streams = record { reply = done.reply; guest = left_guest guest done.reply guest.own; shared = shared; streams = put_output to done.left streams }
+abbrev pub on_input : Doing InStream → Input → Guest → Shared → Streams → Answered
+on_input it from guest shared streams = settled guest (act (apart it.deed) guest.own) shared (put_input from it.left streams)
 
--- a call that goes to an output of its guest, and any other call
-abbrev pub answer_on : Rules → Option Sending → Call → Guest → Shared → Streams → Answered
-answer_on rules None call guest shared streams = answer_from rules guest.settings.input call guest shared streams
-answer_on rules (Some sending) call guest shared streams = let to = output_of guest.settings sending.to in answer_output guest to (rules.sent sending.call (stream_to to streams)) shared streams
+abbrev pub on_output : Doing OutStream → Output → Guest → Shared → Streams → Answered
+on_output it to guest shared streams = settled guest (act (apart it.deed) guest.own) shared (put_output to it.left streams)
+
+-- by the entry at a number
+abbrev pub answer_at : Rules → EntryCall → Owner → Option Entry → Guest → Shared → Streams → Answered
+answer_at rules it at None guest shared streams = settled guest (trapped ResourceNotPresent guest.own) shared streams
+answer_at rules it at (Some (entry.Shared on)) guest shared streams = on_shared (rules.asked it at on shared) guest streams
+answer_at rules it at (Some (entry.Stream standard.Input on)) guest shared streams = on_input (rules.called it at on (input_at guest.settings.input streams)) guest.settings.input guest shared streams
+answer_at rules it at (Some (entry.Stream standard.Output on)) guest shared streams = on_output (rules.sent it standard.Output at on (output_at guest.settings.stdout streams)) guest.settings.stdout guest shared streams
+answer_at rules it at (Some (entry.Stream standard.Error on)) guest shared streams = on_output (rules.sent it standard.Error at on (output_at guest.settings.stderr streams)) guest.settings.stderr guest shared streams
+
+-- by the kind of the call
+abbrev pub answer_to : Rules → Call → ℕ → Guest → Shared → Streams → Answered
+answer_to rules (call.Open it how) g guest shared streams = settled guest (act (Make (opened guest.settings.input it how) None) guest.own) shared streams
+answer_to rules (call.On number it) g guest shared streams = answer_at rules it (record { guest = g; number = number }) (entry_at guest.own number) guest shared streams
+answer_to rules (call.Drop number) g guest shared streams = settled guest (dropped number guest.own) shared streams
+answer_to rules (call.Own it) g guest shared streams = settled guest (act (apart (rules.owned it guest.settings guest.own)) guest.own) shared streams
 
 -- a guest that ended is told so, and nothing else happens
-abbrev pub answer_by : Rules → Bool → Call → Guest → Shared → Streams → Answered
-answer_by rules true call guest shared streams = record { reply = reply.Ended; guest = record { settings = guest.settings; own = guest.own; was_called = true; ended = guest.ended }; shared = shared; streams = streams }
-answer_by rules false call guest shared streams = answer_on rules (rules.sending call guest.own) call guest shared streams
-
-abbrev pub answer_to : Rules → Call → Guest → Shared → Streams → Answered
-answer_to rules call guest shared streams = answer_by rules guest.ended call guest shared streams
+abbrev pub answer_by : Bool → Rules → Call → ℕ → Guest → Shared → Streams → Answered
+answer_by true rules it g guest shared streams = record { reply = reply.Ended; guest = record { settings = guest.settings; own = guest.own; was_called = true; ended = guest.ended }; shared = shared; streams = streams }
+answer_by false rules it g guest shared streams = answer_to rules it g guest shared streams
 
 -- a guest, taken out of the host and put back
 abbrev pub guest_of : Host → ℕ → Option Guest
 guest_of host guest = get_or host.guests guest None
 
-abbrev pub put_answered : Host → ℕ → Answered → Host
-put_answered host guest done = record { shared = done.shared; guests = set host.guests guest (Some done.guest); streams = done.streams }
+abbrev pub answer_in : Rules → Call → ℕ → Option Guest → Shared → Streams → Answered
+answer_in rules it g None shared streams = record { reply = reply.Ended; guest = new_guest input.Empty; shared = shared; streams = streams }
+answer_in rules it g (Some guest) shared streams = answer_by guest.ended rules it g guest shared streams
 
-abbrev pub answer_in : Rules → Call → Option Guest → Shared → Streams → Answered
-answer_in rules call None shared streams = record { reply = reply.Ended; guest = new_guest input.Shared; shared = shared; streams = streams }
-answer_in rules call (Some guest) shared streams = answer_to rules call guest shared streams
+abbrev pub answer : Rules → Call → ℕ → Host → Answered
+answer rules it g host = answer_in rules it g (guest_of host g) host.shared host.streams
 
 -- the host after a guest's call, by these rules
+abbrev pub put_answered : Host → ℕ → Answered → Host
+put_answered host g done = record { shared = done.shared; guests = set host.guests g (Some done.guest); streams = done.streams }
+
 abbrev pub called_in : Rules → Call → ℕ → Host → Host
-called_in rules call guest host = put_answered host guest (answer_in rules call (guest_of host guest) host.shared host.streams)
+called_in rules it g host = put_answered host g (answer rules it g host)
 
-abbrev pub with_stream : List ℕ → Stream → Host → Host
-with_stream name it host = record { shared = host.shared; guests = host.guests; streams = host.streams ++ (name, it) ∷ [] }
-
-abbrev pub with_guest_set : (Guest → Guest) → ℕ → Host → Host
-with_guest_set change guest host = record { shared = host.shared; guests = set host.guests guest (option_map change (guest_of host guest)); streams = host.streams }
-
+-- ---- what lines declare and configure
 abbrev pub new_outlet : ℕ → List SinkPlan → Outlet
 new_outlet room plan = record { taken = []; limits = record { room = room; plan = plan } }
 
-abbrev pub capture_reply : Option ℕ → Reply
-capture_reply None = reply.Idle
-capture_reply (Some size) = reply.Captured size
+abbrev pub new_input : InputDeclaration → InStream
+new_input (declared_in.Pipe bytes) = in_stream.Pipe bytes
+new_input (declared_in.File bytes plan) = in_stream.File (record { left = bytes; plan = plan })
 
-abbrev pub outcome_reply : Outcome → Reply
-outcome_reply (outcome.Gave count) = reply.Gave count
-outcome_reply outcome.End = reply.End
-outcome_reply (outcome.Fault kind) = reply.Fault kind
+abbrev pub new_output : OutputDeclaration → OutStream
+new_output (declared_out.Pipe capacity) = out_stream.Pipe (record { contents = []; room = capacity })
+new_output (declared_out.File room plan) = out_stream.File (new_outlet room plan)
+new_output (declared_out.Stdio room plan) = out_stream.Stdio (new_outlet room plan)
 
-abbrev pub delivery_reply : Option ℕ → Given → Reply
-delivery_reply None given = reply.Idle
-delivery_reply (Some size) given = outcome_reply (outcome_of given)
+abbrev pub with_input : List ℕ → InStream → Host → Host
+with_input name it host = record { shared = host.shared; guests = host.guests; streams = record { inputs = host.streams.inputs ++ (name, it) ∷ []; outputs = host.streams.outputs } }
+
+abbrev pub with_output : List ℕ → OutStream → Host → Host
+with_output name it host = record { shared = host.shared; guests = host.guests; streams = record { inputs = host.streams.inputs; outputs = host.streams.outputs ++ (name, it) ∷ [] } }
+
+abbrev pub with_guest : ℕ → Option Guest → Host → Host
+with_guest g guest host = record { shared = host.shared; guests = set host.guests g guest; streams = host.streams }
+
+-- ---- the worker
+abbrev pub captured_told : Option ℕ → Worked
+captured_told None = worked.Idle
+captured_told (Some size) = worked.Captured size
+
+abbrev pub outcome_told : Outcome → Worked
+outcome_told (outcome.Gave count) = worked.Gave count
+outcome_told outcome.End = worked.End
+outcome_told (outcome.Fault kind) = worked.Fault kind
+
+abbrev pub delivery_told : Option ℕ → Given → Worked
+delivery_told None given = worked.Idle
+delivery_told (Some size) given = outcome_told (outcome_of given)
 
 abbrev pub after_delivery : Option ℕ → Shared → Given → Shared
 after_delivery None shared given = shared
 after_delivery (Some size) shared given = delivered shared given
 
--- the reply to a step, and the host after it; a delivery gives `given`
+abbrev pub turn_told : WorkerTurn → Shared → Given → Worked
+turn_told turn.Capture shared given = captured_told (capture_of shared)
+turn_told turn.Deliver shared given = delivery_told shared.captured given
+
+abbrev pub after_turn : WorkerTurn → Shared → Given → Shared
+after_turn turn.Capture shared given = after_capture shared
+after_turn turn.Deliver shared given = after_delivery shared.captured shared given
+
+-- ---- the reply to a step, and the host after it; a delivery gives `given`
+abbrev pub reply_by : Rules → Line → Host → Given → Reply
+reply_by rules (line.Call g it) host given = (answer rules it g host).reply
+reply_by rules (line.Worker it) host given = reply.Worked (turn_told it host.shared given)
+reply_by rules other host given = reply.Told told.Ok
+
+abbrev pub host_by : Rules → Line → Host → Given → Host
+host_by rules (line.Input name it) host given = with_input name (new_input it) host
+host_by rules (line.Output name it) host given = with_output name (new_output it) host
+host_by rules (line.Guest g input) host given = with_guest g (Some (new_guest input)) host
+host_by rules (line.Configure g it) host given = with_guest g (option_map (configured it) (guest_of host g)) host
+host_by rules (line.Call g it) host given = called_in rules it g host
+host_by rules (line.Worker it) host given = record { shared = after_turn it host.shared given; guests = host.guests; streams = host.streams }
+
 abbrev pub reply_to : Line → Host → Given → Reply
-reply_to (line.Pipe name bytes) host given = reply.Ok
-reply_to (line.InFile name bytes plan) host given = reply.Ok
-reply_to (line.OutPipe name capacity) host given = reply.Ok
-reply_to (line.OutFile name room plan) host given = reply.Ok
-reply_to (line.Stdio name room plan) host given = reply.Ok
-reply_to (line.Guest guest input) host given = reply.Ok
-reply_to (line.Stdout guest it) host given = reply.Ok
-reply_to (line.Stderr guest it) host given = reply.Ok
-reply_to (line.Capacity guest capacity) host given = reply.Ok
-reply_to (line.Call guest call) host given = (answer_in the_rules call (guest_of host guest) host.shared host.streams).reply
-reply_to line.Capture host given = capture_reply (capture_of host.shared)
-reply_to line.Deliver host given = delivery_reply host.shared.captured given
+reply_to = reply_by the_rules
 
 abbrev pub host_after : Line → Host → Given → Host
-host_after (line.Pipe name bytes) host given = with_stream name (stream.Pipe bytes) host
-host_after (line.InFile name bytes plan) host given = with_stream name (stream.InFile (record { left = bytes; plan = plan })) host
-host_after (line.OutPipe name capacity) host given = with_stream name (stream.OutPipe (record { contents = []; room = capacity })) host
-host_after (line.OutFile name room plan) host given = with_stream name (stream.OutFile (new_outlet room plan)) host
-host_after (line.Stdio name room plan) host given = with_stream name (stream.Stdio (new_outlet room plan)) host
-host_after (line.Guest guest input) host given = record { shared = host.shared; guests = set host.guests guest (Some (new_guest input)); streams = host.streams }
-host_after (line.Stdout guest it) host given = with_guest_set (with_stdout it) guest host
-host_after (line.Stderr guest it) host given = with_guest_set (with_stderr it) guest host
-host_after (line.Capacity guest capacity) host given = with_guest_set (with_capacity capacity) guest host
-host_after (line.Call guest call) host given = called_in the_rules call guest host
-host_after line.Capture host given = record { shared = after_capture host.shared; guests = host.guests; streams = host.streams }
-host_after line.Deliver host given = record { shared = after_delivery host.shared.captured host.shared given; guests = host.guests; streams = host.streams }
+host_after = host_by the_rules
 
 -- the size that a step reads from the source, if it reads
 abbrev pub size_read : Line → Host → Option ℕ
-size_read line.Deliver host = host.shared.captured
-size_read line.Capture host = None
-size_read (line.Pipe name bytes) host = None
-size_read (line.InFile name bytes plan) host = None
-size_read (line.OutPipe name capacity) host = None
-size_read (line.OutFile name room plan) host = None
-size_read (line.Stdio name room plan) host = None
-size_read (line.Guest guest input) host = None
-size_read (line.Stdout guest it) host = None
-size_read (line.Stderr guest it) host = None
-size_read (line.Capacity guest capacity) host = None
-size_read (line.Call guest call) host = None
+size_read (line.Worker turn.Deliver) host = host.shared.captured
+size_read other host = None
 
 -- one step, over any source: what a delivery gave is what the shared input holds after it
 pub record IsStep (before after : Option Told) (old new : Host) (step : Line) (answer : Reply) : Type 0 where
@@ -278,13 +303,21 @@ abbrev pub told_end : List Line → Host → Told → Told
 told_end [] host told = told
 told_end (step ∷ steps) host told = told_end steps (step_host step host told) (step_told step host told)
 
--- what the host's guests say is declared and was called
+-- what is declared and was called
 abbrev pub was_called_in : Option Guest → Bool
 was_called_in None = false
 was_called_in (Some guest) = guest.was_called
 
+abbrev pub names_in : {A : Type 0} → Named A → List (List ℕ)
+names_in named = map (λ row. row.0) named
+
 abbrev pub names_of : Host → Names
-names_of host = record { is_guest = λ guest. is_some (guest_of host guest); was_called = λ guest. was_called_in (guest_of host guest); streams = map (λ row. (row.0, direction_of row.1)) host.streams }
+names_of host = record {
+  is_guest = λ g. is_some (guest_of host g);
+  was_called = λ g. was_called_in (guest_of host g);
+  inputs = names_in host.streams.inputs;
+  outputs = names_in host.streams.outputs;
+}
 
 -- a step may stand after what the host holds
 abbrev pub Fits : Line → Host → Type 0

@@ -1,28 +1,43 @@
+ghost use Rattle.std.specs.Prelude.{◌≡◌, Some};
+ghost use Rattle.wasi_host.specs.Entry.{stream_kind};
+ghost use Rattle.wasi_host.specs.Deeds.{stands_alone, goes_under, may_change, is_shared};
+
+use wasi_script::Standard;
 use wasi_stdin::Wait;
 use wasi_table::Kinded;
 
-/// The two outputs that a guest has.
-#[derive(Clone, Copy, Debug, PartialEq, Eq, Drop)]
-pub enum Standard {
-    Output,
-    Error,
-}
-
-/// What stands at a number of a guest's.
-#[derive(Drop)]
-pub enum Entry {
-    /// Reads the guest's input.
+/// How an entry is on the shared input.
+#[derive(Clone, Copy, Drop)]
+pub enum SharedEntry {
+    /// Reads it.
     Reader,
-    /// Reads the guest's input by polls.
+    /// Reads it by polls.
     Polled(Wait),
     /// Tells whether a reader, its parent in the table, would be told something.
     Pollable(Wait),
-    /// Writes to one of the guest's outputs.
-    Writer(Standard),
-    /// Writes to one of the guest's outputs by polls.
-    PolledWriter(Standard),
-    /// A pollable of a writer, its parent in the table, which is always ready.
-    Always,
+}
+
+/// How an entry is on a stream.
+#[derive(Clone, Copy, Debug, PartialEq, Eq, Drop)]
+pub enum StreamEntry {
+    /// Reads or writes it by calls that answer at once.
+    Plain,
+    /// Reads or writes it by polls.
+    Polled,
+    /// Tells whether the plain entry that is its parent in the table is ready.
+    Pollable,
+}
+
+/// What stands at a number of a guest's: it says what it is on.
+#[derive(Clone, Copy, Drop)]
+pub enum Entry {
+    /// On the shared input.
+    Shared(SharedEntry),
+    /// On the stream that this standard stream of the guest is.
+    Stream {
+        stream: Standard,
+        entry: StreamEntry,
+    },
 }
 
 impl Entry {
@@ -40,6 +55,59 @@ impl Entry {
 
     /// The kind of a polled writer.
     pub const POLLED_WRITER: u32 = 4;
+
+    /// Whether an entry has no parent.
+    pub fn stands_alone(&self) -> bool
+        ensures { result ≡ stands_alone self.now }
+    {
+        match self {
+            Entry::Shared(SharedEntry::Pollable(_)) => false,
+            Entry::Stream { stream: _, entry } => !matches!(entry, StreamEntry::Pollable),
+            Entry::Shared(_) => true,
+        }
+    }
+
+    /// Whether an entry may have this one as its parent.
+    pub fn goes_under(&self, parent: &Entry) -> bool
+        ensures { result ≡ goes_under self.now (Some parent.now) }
+    {
+        match self {
+            Entry::Shared(SharedEntry::Pollable(_)) => {
+                matches!(parent, Entry::Shared(SharedEntry::Reader))
+            }
+            Entry::Stream {
+                stream: _,
+                entry: StreamEntry::Pollable,
+            } => matches!(
+                parent,
+                Entry::Stream {
+                    stream: _,
+                    entry: StreamEntry::Plain
+                }
+            ),
+            Entry::Shared(_) | Entry::Stream { .. } => false,
+        }
+    }
+
+    /// Whether an entry may stand in place of this one.
+    pub fn may_become(&self, new: &Entry) -> bool
+        ensures { result ≡ may_change (Some self.now) new.now }
+    {
+        match (self, new) {
+            (Entry::Shared(SharedEntry::Polled(_)), Entry::Shared(SharedEntry::Polled(_))) => true,
+            (Entry::Shared(SharedEntry::Pollable(_)), Entry::Shared(SharedEntry::Pollable(_))) => {
+                true
+            }
+            _ => false,
+        }
+    }
+
+    /// Whether an entry is on the shared input.
+    pub fn is_shared(&self) -> bool
+        ensures { result ≡ is_shared self.now }
+    {
+        matches!(self, Entry::Shared(_))
+    }
 }
 
 impl Kinded for Entry {
@@ -49,11 +117,22 @@ impl Kinded for Entry {
 
     fn kind(&self) -> u32 {
         match self {
-            Entry::Reader => Entry::READER,
-            Entry::Polled(_) => Entry::POLLED,
-            Entry::Pollable(_) | Entry::Always => Entry::POLLABLE,
-            Entry::Writer(_) => Entry::WRITER,
-            Entry::PolledWriter(_) => Entry::POLLED_WRITER,
+            Entry::Shared(SharedEntry::Reader) => Entry::READER,
+            Entry::Shared(SharedEntry::Polled(_)) => Entry::POLLED,
+            Entry::Shared(SharedEntry::Pollable(_)) => Entry::POLLABLE,
+            Entry::Stream { stream, entry } => stream_kind(*stream, *entry),
         }
+    }
+}
+
+fn stream_kind(stream: Standard, entry: StreamEntry) -> u32
+    ensures { result ≡ stream_kind stream entry }
+{
+    match (stream, entry) {
+        (_, StreamEntry::Pollable) => Entry::POLLABLE,
+        (Standard::Input, StreamEntry::Plain) => Entry::READER,
+        (Standard::Input, StreamEntry::Polled) => Entry::POLLED,
+        (_, StreamEntry::Plain) => Entry::WRITER,
+        (_, StreamEntry::Polled) => Entry::POLLED_WRITER,
     }
 }

@@ -1,8 +1,7 @@
 ghost use Rattle.std.specs.Prelude.{◌≡◌, IfOk, OnErr};
-ghost use Rattle.std.specs.Option.{option_copied};
 ghost use Rattle.wasi_streams.specs.Answers.{OnNoMemory, UnlessNoMemory};
 ghost use Rattle.wasi_streams.specs.Files.{file_read, after_file_read, file_skip, file_poll_read};
-ghost use Rattle.wasi_host.specs.Streams.{taken_of};
+ghost use Rattle.wasi_host.specs.OutStreams.{taken_of};
 
 use crate::outlet::{FileOutput, ProcessOutput};
 use bytes::Bytes;
@@ -56,35 +55,42 @@ impl FileInput {
     }
 }
 
-/// What guests read that is not the shared input, and what they write to.
+/// What guests read that is not the shared input.
 #[derive(Drop)]
-pub enum Stream {
-    /// An input at its end, or an output that takes nothing, which no line declares.
+pub enum InStream {
+    /// An input at its end, which no line declares.
     Closed,
-    /// An output that takes everything and keeps nothing, which no line declares.
-    Sink,
     /// `pipe`: the bytes that are left.
     Pipe(MemoryInputPipe),
     /// `infile`: a source with a plan.
-    InFile(FileInput),
+    File(FileInput),
+}
+
+/// What guests write to.
+#[derive(Drop)]
+pub enum OutStream {
+    /// An output that takes nothing, which no line declares.
+    Closed,
+    /// An output that takes everything and keeps nothing, which no line declares.
+    Sink,
     /// `outpipe`: what it took, and the room left.
-    OutPipe(MemoryOutputPipe),
+    Pipe(MemoryOutputPipe),
     /// `outfile`: a sink with a plan.
-    OutFile(FileOutput),
+    File(FileOutput),
     /// `stdio`: a sink with a plan, as an output of the host's process.
     Stdio(ProcessOutput),
 }
 
-impl Stream {
-    /// All bytes that a declared output took, in order.
-    pub fn taken(&self) -> Option<&[u8]>
-        ensures { option_copied result ≡ taken_of self.now }
+impl OutStream {
+    /// All bytes that it took, in order.
+    pub fn taken(&self) -> &[u8]
+        ensures { result.now ≡ taken_of self.now }
     {
         match self {
-            Stream::OutPipe(pipe) => Some(pipe.contents()),
-            Stream::OutFile(file) => Some(file.taken()),
-            Stream::Stdio(output) => Some(output.taken()),
-            Stream::Closed | Stream::Sink | Stream::Pipe(_) | Stream::InFile(_) => None,
+            OutStream::Pipe(pipe) => pipe.contents(),
+            OutStream::File(file) => file.taken(),
+            OutStream::Stdio(output) => output.taken(),
+            OutStream::Closed | OutStream::Sink => &[],
         }
     }
 }

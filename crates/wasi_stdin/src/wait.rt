@@ -3,7 +3,7 @@ ghost use Rattle.std.specs.Prelude.{◌≡◌, None};
 use std::marker::Model;
 
 /// What a polled read or a pollable waits for: a delivery after so many, or nothing.
-#[derive(Drop)]
+#[derive(Clone, Copy, Drop)]
 pub struct Wait {
     since: Option<u64>,
 }
@@ -14,6 +14,8 @@ impl Model for Wait {
     ghost Value = { Option ℕ };
 
     ghost view = { λ wait. wait.since };
+
+    ghost inverse = { λ since. record { since = since } };
 }
 
 impl Wait {

@@ -1,5 +1,0 @@
-use Rattle.wasi_host.specs.Headline.{headline}
-use Rattle.wasi_host.proofs.laws.a_run_of_the_host.Goals as goal
-
-pub returns : goal.returns
-returns c = headline

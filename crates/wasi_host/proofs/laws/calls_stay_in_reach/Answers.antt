@@ -1,5 +1,0 @@
-use Rattle.wasi_host.specs.Reach.{calls_stay}
-use Rattle.wasi_host.proofs.laws.calls_stay_in_reach.Goals as goal
-
-pub returns : goal.returns
-returns c = calls_stay

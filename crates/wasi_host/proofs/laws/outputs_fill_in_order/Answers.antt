@@ -1,5 +1,0 @@
-use Rattle.wasi_host.specs.Filled.{outputs_fill}
-use Rattle.wasi_host.proofs.laws.outputs_fill_in_order.Goals as goal
-
-pub returns : goal.returns
-returns c = outputs_fill

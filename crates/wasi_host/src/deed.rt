@@ -1,0 +1,62 @@
+ghost use Rattle.std.specs.Prelude.{◌≡◌};
+ghost use Rattle.wasi_host.specs.Deeds.{apart};
+
+use crate::Entry;
+use wasi_base::TrapText;
+use wasi_reply::Told;
+
+/// What is to be done for a call of a guest, and what it is told then.
+#[derive(Drop)]
+pub enum Deed {
+    /// Nothing: it is told this. A trap or an exit ends it.
+    Tell(Told),
+    /// A new entry, under the live one of a number where one is given: it is told the new number.
+    Make {
+        entry: Entry,
+        parent: Option<u64>,
+    },
+    /// Another entry in place of one of its sort.
+    Change {
+        number: u64,
+        entry: Entry,
+        told: Told,
+    },
+}
+
+impl Deed {
+    /// What is done of it for a call that is not on the shared input: no entry on that is made or
+    /// changed.
+    pub fn apart(self) -> Deed
+        ensures { result ≡ apart self }
+    {
+        match self {
+            Deed::Tell(told) => Deed::Tell(told),
+            Deed::Make { entry, parent } => {
+                if entry.is_shared() {
+                    return mistaken();
+                }
+                Deed::Make { entry, parent }
+            }
+            Deed::Change {
+                number,
+                entry,
+                told,
+            } => {
+                if entry.is_shared() {
+                    return mistaken();
+                }
+                Deed::Change {
+                    number,
+                    entry,
+                    told,
+                }
+            }
+        }
+    }
+}
+
+fn mistaken() -> Deed
+    ensures { result ≡ Deed.Tell (Told.Trap TrapText.ResourceWrongType) }
+{
+    Deed::Tell(Told::Trap(TrapText::ResourceWrongType))
+}
