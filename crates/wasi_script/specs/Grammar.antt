@@ -218,6 +218,11 @@ names_after names (line.Configure guest it) = names
 names_after names (line.Call guest it) = record names { was_called = also guest names.was_called }
 names_after names (line.Worker it) = names
 
+-- .. and after all of some steps
+abbrev pub names_end : Names → List Line → Names
+names_end names [] = names
+names_end names (step ∷ steps) = names_end (names_after names step) steps
+
 -- what a line of text is after these lines
 abbrev pub if_standing : Names → Reading → Reading
 if_standing names Note = Note

@@ -9,4 +9,3 @@ pub mod Plans
 pub mod Reads
 pub mod Refused
 pub mod Standing
-pub mod Streams

@@ -1,18 +1,19 @@
 ghost use Rattle.std.specs.Prelude.{◌≡◌, true, OnOk, OnErr};
-ghost use Rattle.wasi_script.specs.Grammar.{may_stand, may_declare, may_set_up, is_input, input_stands, is_output, output_stands, names_after, no_names};
+ghost use Rattle.wasi_script.specs.Grammar.{may_stand, may_declare, may_set_up, input_stands, output_stands, setting_stands, names_after, no_names};
 
-use crate::lines::{Input, Line, Output};
+use crate::lines::{Input, Line, Output, Setting};
 use crate::name::Name;
-use crate::streams::{Direction, Streams};
+use crate::name_set::NameSet;
 use std::alloc::Global;
 use wasi_base::OutOfMemory;
 
-/// What the lines so far declared: guests and streams; and which of the guests have called.
+/// What the lines so far declared: guests, inputs and outputs; and which of the guests have called.
 #[derive(Drop)]
 pub struct Declarations {
     declared: [bool; 64],
     called: [bool; 64],
-    streams: Streams,
+    inputs: NameSet,
+    outputs: NameSet,
 }
 
 impl Declarations {
@@ -24,7 +25,8 @@ impl Declarations {
         Declarations {
             declared: [false; 64],
             called: [false; 64],
-            streams: Streams::none(alloc),
+            inputs: NameSet::none(alloc),
+            outputs: NameSet::none(alloc),
         }
     }
 
@@ -33,23 +35,25 @@ impl Declarations {
         ensures { result ≡ may_stand (names_in self.now) line.now }
     {
         match line {
+            Line::Input { name, .. } | Line::Output { name, .. } => self.allow_name(name),
             Line::Guest { guest, input } => {
                 *guest < 64 && (!self.declared[*guest as usize] && self.allow_input(input))
             }
-            Line::Capacity { guest, capacity } => {
-                (1 <= *capacity && *capacity <= 65536) && self.allow_set_up(*guest)
+            Line::Configure { guest, setting } => {
+                self.allow_set_up(*guest) && self.allow_setting(setting)
             }
-            Line::Stdout { guest, output } | Line::Stderr { guest, output } => {
-                self.allow_set_up(*guest) && self.allow_output(output)
-            }
-            Line::Pipe { name, .. }
-            | Line::InFile { name, .. }
-            | Line::OutPipe { name, .. }
-            | Line::OutFile { name, .. }
-            | Line::Stdio { name, .. } => self.allow_name(name),
             Line::Call { guest, call: _ } => *guest < 64 && self.declared[*guest as usize],
-            Line::Capture | Line::Deliver => true,
+            Line::Worker(_) => true,
         }
+    }
+
+    // Whether a stream may be declared under a name.
+    fn allow_name(&self, name: &Name) -> bool
+        ensures { result ≡ may_declare (names_in self.now) name.now }
+    {
+        let name = name.as_bytes();
+        self.inputs.len() + self.outputs.len() < 64
+            && (!self.inputs.contains(name) && !self.outputs.contains(name))
     }
 
     // Whether lines may say more of a guest.
@@ -59,11 +63,14 @@ impl Declarations {
         guest < 64 && (self.declared[guest as usize] && !self.called[guest as usize])
     }
 
-    // Whether a stream may be declared under a name.
-    fn allow_name(&self, name: &Name) -> bool
-        ensures { result ≡ may_declare (names_in self.now) name.now }
+    // Whether they may say this of it.
+    fn allow_setting(&self, setting: &Setting) -> bool
+        ensures { result ≡ setting_stands (names_in self.now) setting.now }
     {
-        self.streams.len() < 64 && self.streams.direction(name.as_bytes()).is_none()
+        match setting {
+            Setting::Stdout(output) | Setting::Stderr(output) => self.allow_output(output),
+            Setting::Capacity(capacity) => 1 <= *capacity && *capacity <= 65536,
+        }
     }
 
     // Whether a guest may have this input.
@@ -72,16 +79,7 @@ impl Declarations {
     {
         match input {
             Input::Shared | Input::Empty | Input::Closed => true,
-            Input::Named(name) => self.has_input(name),
-        }
-    }
-
-    fn has_input(&self, name: &Name) -> bool
-        ensures { result ≡ is_input (names_in self.now) name.now }
-    {
-        match self.streams.direction(name.as_bytes()) {
-            Some(Direction::Inward) => true,
-            Some(Direction::Outward) | None => false,
+            Input::Named(name) => self.inputs.contains(name.as_bytes()),
         }
     }
 
@@ -91,16 +89,7 @@ impl Declarations {
     {
         match output {
             Output::Empty | Output::Sink | Output::Closed => true,
-            Output::Named(name) => self.has_output(name),
-        }
-    }
-
-    fn has_output(&self, name: &Name) -> bool
-        ensures { result ≡ is_output (names_in self.now) name.now }
-    {
-        match self.streams.direction(name.as_bytes()) {
-            Some(Direction::Outward) => true,
-            Some(Direction::Inward) | None => false,
+            Output::Named(name) => self.outputs.contains(name.as_bytes()),
         }
     }
 
@@ -111,19 +100,11 @@ impl Declarations {
         ensures err { OnErr result (names_in self.new ≡ names_in self.old) }
     {
         match line {
+            Line::Input { name, input: _ } => self.inputs.add(alloc, name.as_bytes())?,
+            Line::Output { name, output: _ } => self.outputs.add(alloc, name.as_bytes())?,
             Line::Guest { guest, input: _ } => self.declared[*guest as usize] = true,
             Line::Call { guest, call: _ } => self.called[*guest as usize] = true,
-            Line::Pipe { name, .. } | Line::InFile { name, .. } => {
-                return self.streams.add(alloc, name.as_bytes(), Direction::Inward);
-            }
-            Line::OutPipe { name, .. } | Line::OutFile { name, .. } | Line::Stdio { name, .. } => {
-                return self.streams.add(alloc, name.as_bytes(), Direction::Outward);
-            }
-            Line::Stdout { .. }
-            | Line::Stderr { .. }
-            | Line::Capacity { .. }
-            | Line::Capture
-            | Line::Deliver => {}
+            Line::Configure { .. } | Line::Worker(_) => {}
         }
         Ok(())
     }

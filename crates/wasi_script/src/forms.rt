@@ -1,10 +1,18 @@
-ghost use Rattle.std.specs.Prelude.{◌≡◌, ◌∷◌, ◌++◌, IfOk};
-ghost use Rattle.wasi_script.specs.Grammar.{meaning_by, input_calls, output_calls, other_calls, other_lines, call_of, line_of, pipe_of, in_file_of, out_pipe_of, sink_of, guest_line_of, stdout_of, stderr_of, capacity_line_of, call_line_of, reading_of, exit_of, input_of, output_of};
-ghost use Rattle.wasi_script.specs.declared.lines.Line.TheVariants as line;
+ghost use Rattle.std.specs.Prelude.{◌≡◌, ℕ, List, ◌∷◌, ◌++◌, IfOk};
+ghost use Rattle.wasi_script.specs.Grammar.{meaning_by, entry_calls, other_calls, other_lines, call_of, line_of, pipe_of, in_file_of, out_pipe_of, sink_of, guest_line_of, setting_of, call_line_of, without_fields, on_number, on_number_with, reading_of, exit_of, input_of, output_of};
+ghost use Rattle.wasi_script.specs.Fields.{number_of, capacity_of};
+ghost use Rattle.wasi_script.specs.Bytes.{byte_string_of};
+ghost use Rattle.wasi_script.specs.declared.lines.Call.TheVariants as call;
+ghost use Rattle.wasi_script.specs.declared.lines.EntryCall.{EntryCall};
+ghost use Rattle.wasi_script.specs.declared.lines.OutputDeclaration.TheVariants as output_declaration;
+ghost use Rattle.wasi_script.specs.declared.lines.Setting.TheVariants as setting;
 ghost use Rattle.wasi_script.specs.Reads.{Reads};
 
 use crate::bytes::ByteString;
-use crate::lines::{Call, ExitStatus, Input, Line, Output, OutputCall};
+use crate::lines::{
+    Access, Call, EntryCall, ExitStatus, Input, InputDeclaration, Line, Output, OutputDeclaration,
+    OwnCall, Setting, Standard, WorkerTurn,
+};
 use crate::name::Name;
 use crate::numbers::{parse_capacity, parse_exit_code, parse_guest, parse_number, parse_room};
 use crate::parts::{Parts, is, is_done, only};
@@ -71,11 +79,11 @@ fn parse_other_line(alloc: Global, word: &[u8], words: Parts) -> Result<Line, Re
         parse_call_line(alloc, words)
     } else if is(word, b"capture") {
         is_done(words)
-            .then_some(Line::Capture)
+            .then_some(Line::Worker(WorkerTurn::Capture))
             .ok_or(Refusal::Invalid)
     } else if is(word, b"deliver") {
         is_done(words)
-            .then_some(Line::Deliver)
+            .then_some(Line::Worker(WorkerTurn::Deliver))
             .ok_or(Refusal::Invalid)
     } else {
         Err(Refusal::Invalid)
@@ -87,7 +95,8 @@ fn parse_pipe(alloc: Global, mut words: Parts) -> Result<Line, Refusal>
 {
     let name = Name::read(alloc, words.next().ok_or(Refusal::Invalid)?)?;
     let bytes = ByteString::read_declared(alloc, only(words).ok_or(Refusal::Invalid)?)?;
-    Ok(Line::Pipe { name, bytes })
+    let input = InputDeclaration::Pipe { bytes };
+    Ok(Line::Input { name, input })
 }
 
 fn parse_in_file(alloc: Global, mut words: Parts) -> Result<Line, Refusal>
@@ -96,7 +105,8 @@ fn parse_in_file(alloc: Global, mut words: Parts) -> Result<Line, Refusal>
     let name = Name::read(alloc, words.next().ok_or(Refusal::Invalid)?)?;
     let bytes = ByteString::read_declared(alloc, words.next().ok_or(Refusal::Invalid)?)?;
     let plan = ReadPlan::read(alloc, only(words).ok_or(Refusal::Invalid)?)?;
-    Ok(Line::InFile { name, bytes, plan })
+    let input = InputDeclaration::File { bytes, plan };
+    Ok(Line::Input { name, input })
 }
 
 fn parse_out_pipe(alloc: Global, mut words: Parts) -> Result<Line, Refusal>
@@ -105,27 +115,30 @@ fn parse_out_pipe(alloc: Global, mut words: Parts) -> Result<Line, Refusal>
     let name = Name::read(alloc, words.next().ok_or(Refusal::Invalid)?)?;
     let word = only(words).ok_or(Refusal::Invalid)?;
     let capacity = parse_room(word).ok_or(Refusal::Invalid)?;
-    Ok(Line::OutPipe { name, capacity })
+    let output = OutputDeclaration::Pipe { capacity };
+    Ok(Line::Output { name, output })
 }
 
 fn parse_out_file(alloc: Global, mut words: Parts) -> Result<Line, Refusal>
-    ensures { Reads result (sink_of line.OutFile words.entry) }
+    ensures { Reads result (sink_of output_declaration.File words.entry) }
 {
     let name = Name::read(alloc, words.next().ok_or(Refusal::Invalid)?)?;
     let word = words.next().ok_or(Refusal::Invalid)?;
     let room = parse_room(word).ok_or(Refusal::Invalid)?;
     let plan = WritePlan::read(alloc, only(words).ok_or(Refusal::Invalid)?)?;
-    Ok(Line::OutFile { name, room, plan })
+    let output = OutputDeclaration::File { room, plan };
+    Ok(Line::Output { name, output })
 }
 
 fn parse_stdio(alloc: Global, mut words: Parts) -> Result<Line, Refusal>
-    ensures { Reads result (sink_of line.Stdio words.entry) }
+    ensures { Reads result (sink_of output_declaration.Stdio words.entry) }
 {
     let name = Name::read(alloc, words.next().ok_or(Refusal::Invalid)?)?;
     let word = words.next().ok_or(Refusal::Invalid)?;
     let room = parse_room(word).ok_or(Refusal::Invalid)?;
     let plan = WritePlan::read(alloc, only(words).ok_or(Refusal::Invalid)?)?;
-    Ok(Line::Stdio { name, room, plan })
+    let output = OutputDeclaration::Stdio { room, plan };
+    Ok(Line::Output { name, output })
 }
 
 fn parse_guest_line(alloc: Global, mut words: Parts) -> Result<Line, Refusal>
@@ -138,29 +151,32 @@ fn parse_guest_line(alloc: Global, mut words: Parts) -> Result<Line, Refusal>
 }
 
 fn parse_stdout(alloc: Global, mut words: Parts) -> Result<Line, Refusal>
-    ensures { Reads result (stdout_of words.entry) }
+    ensures { Reads result (setting_of output_of setting.Stdout words.entry) }
 {
     let word = words.next().ok_or(Refusal::Invalid)?;
     let guest = parse_guest(word).ok_or(Refusal::Invalid)?;
     let output = parse_output(alloc, only(words).ok_or(Refusal::Invalid)?)?;
-    Ok(Line::Stdout { guest, output })
+    let setting = Setting::Stdout(output);
+    Ok(Line::Configure { guest, setting })
 }
 
 fn parse_stderr(alloc: Global, mut words: Parts) -> Result<Line, Refusal>
-    ensures { Reads result (stderr_of words.entry) }
+    ensures { Reads result (setting_of output_of setting.Stderr words.entry) }
 {
     let word = words.next().ok_or(Refusal::Invalid)?;
     let guest = parse_guest(word).ok_or(Refusal::Invalid)?;
     let output = parse_output(alloc, only(words).ok_or(Refusal::Invalid)?)?;
-    Ok(Line::Stderr { guest, output })
+    let setting = Setting::Stderr(output);
+    Ok(Line::Configure { guest, setting })
 }
 
 fn parse_capacity_line(mut words: Parts) -> Option<Line>
-    ensures { result ≡ capacity_line_of words.entry }
+    ensures { result ≡ setting_of capacity_of setting.Capacity words.entry }
 {
     let guest = parse_guest(words.next()?)?;
     let capacity = parse_capacity(only(words)?)?;
-    Some(Line::Capacity { guest, capacity })
+    let setting = Setting::Capacity(capacity);
+    Some(Line::Configure { guest, setting })
 }
 
 fn parse_call_line(alloc: Global, mut words: Parts) -> Result<Line, Refusal>
@@ -172,103 +188,121 @@ fn parse_call_line(alloc: Global, mut words: Parts) -> Result<Line, Refusal>
     Ok(Line::Call { guest, call })
 }
 
+// a call that opens a standard stream, or another one
 fn parse_call(alloc: Global, mut words: Parts) -> Result<Call, Refusal>
     ensures { Reads result (call_of words.entry) }
 {
     let name = words.next().ok_or(Refusal::Invalid)?;
-    if is(name, b"write") {
-        let word = words.next().ok_or(Refusal::Invalid)?;
-        let number = parse_number(word).ok_or(Refusal::Invalid)?;
-        let bytes = ByteString::read(alloc, only(words).ok_or(Refusal::Invalid)?)?;
-        let call = OutputCall::Write { bytes };
-        Ok(Call::OnOutput { number, call })
-    } else if is(name, b"poll-write") {
-        let word = words.next().ok_or(Refusal::Invalid)?;
-        let number = parse_number(word).ok_or(Refusal::Invalid)?;
-        let bytes = ByteString::read(alloc, only(words).ok_or(Refusal::Invalid)?)?;
-        let call = OutputCall::PollWrite { bytes };
-        Ok(Call::OnOutput { number, call })
-    } else {
-        parse_input_call(name, words).ok_or(Refusal::Invalid)
-    }
-}
-
-// a call that writes no bytes
-fn parse_input_call(name: &[u8], mut words: Parts) -> Option<Call>
-    ensures { result ≡ meaning_by (input_calls ++ (output_calls ++ other_calls)) (name.now ∷ words.entry) }
-{
     if is(name, b"get-stdin") {
-        is_done(words).then_some(Call::GetStdin)
+        open(words, Standard::Input, Access::Plain)
+    } else if is(name, b"get-stdout") {
+        open(words, Standard::Output, Access::Plain)
+    } else if is(name, b"get-stderr") {
+        open(words, Standard::Error, Access::Plain)
     } else if is(name, b"async-stdin") {
-        is_done(words).then_some(Call::AsyncStdin)
-    } else if is(name, b"read") {
-        let number = parse_number(words.next()?)?;
-        let size = parse_number(only(words)?)?;
-        Some(Call::Read { number, size })
-    } else if is(name, b"skip") {
-        let number = parse_number(words.next()?)?;
-        let size = parse_number(only(words)?)?;
-        Some(Call::Skip { number, size })
-    } else if is(name, b"poll-read") {
-        let number = parse_number(words.next()?)?;
-        let room = parse_number(only(words)?)?;
-        Some(Call::PollRead { number, room })
+        open(words, Standard::Input, Access::Polled)
+    } else if is(name, b"async-stdout") {
+        open(words, Standard::Output, Access::Polled)
+    } else if is(name, b"async-stderr") {
+        open(words, Standard::Error, Access::Polled)
     } else {
-        parse_output_call(name, words)
+        parse_entry_call(alloc, name, words)
     }
 }
 
-// a call that is on no input either
-fn parse_output_call(name: &[u8], words: Parts) -> Option<Call>
-    ensures { result ≡ meaning_by (output_calls ++ other_calls) (name.now ∷ words.entry) }
+fn open(words: Parts, stream: Standard, access: Access) -> Result<Call, Refusal>
+    ensures { Reads result (without_fields (call.Open stream access) words.entry) }
 {
-    if is(name, b"get-stdout") {
-        is_done(words).then_some(Call::GetStdout)
-    } else if is(name, b"get-stderr") {
-        is_done(words).then_some(Call::GetStderr)
-    } else if is(name, b"async-stdout") {
-        is_done(words).then_some(Call::AsyncStdout)
-    } else if is(name, b"async-stderr") {
-        is_done(words).then_some(Call::AsyncStderr)
+    is_done(words)
+        .then_some(Call::Open { stream, access })
+        .ok_or(Refusal::Invalid)
+}
+
+// a call on the entry of a number, or another one
+fn parse_entry_call(alloc: Global, name: &[u8], words: Parts) -> Result<Call, Refusal>
+    ensures { Reads result (meaning_by (entry_calls ++ other_calls) (name.now ∷ words.entry)) }
+{
+    if is(name, b"read") {
+        on_number_with_number(words, |size| EntryCall::Read { size })
+    } else if is(name, b"skip") {
+        on_number_with_number(words, |size| EntryCall::Skip { size })
+    } else if is(name, b"poll-read") {
+        on_number_with_number(words, |room| EntryCall::PollRead { room })
     } else if is(name, b"check-write") {
-        let number = parse_number(only(words)?)?;
-        let call = OutputCall::CheckWrite;
-        Some(Call::OnOutput { number, call })
+        on_number_alone(words, EntryCall::CheckWrite)
+    } else if is(name, b"write") {
+        on_number_with_bytes(alloc, words, |bytes| EntryCall::Write { bytes })
     } else if is(name, b"flush") {
-        let number = parse_number(only(words)?)?;
-        let call = OutputCall::Flush;
-        Some(Call::OnOutput { number, call })
+        on_number_alone(words, EntryCall::Flush)
+    } else if is(name, b"poll-write") {
+        on_number_with_bytes(alloc, words, |bytes| EntryCall::PollWrite { bytes })
     } else if is(name, b"poll-flush") {
-        let number = parse_number(only(words)?)?;
-        let call = OutputCall::PollFlush;
-        Some(Call::OnOutput { number, call })
+        on_number_alone(words, EntryCall::PollFlush)
+    } else if is(name, b"subscribe") {
+        on_number_alone(words, EntryCall::Subscribe)
+    } else if is(name, b"ready") {
+        on_number_alone(words, EntryCall::Ready)
+    } else if is(name, b"block") {
+        on_number_alone(words, EntryCall::Block)
     } else {
-        parse_other_call(name, words)
+        parse_other_call(name, words).ok_or(Refusal::Invalid)
     }
+}
+
+// a call on a number, and no more
+fn on_number_alone(words: Parts, it: EntryCall) -> Result<Call, Refusal>
+    ensures { Reads result (on_number it words.entry) }
+{
+    let word = only(words).ok_or(Refusal::Invalid)?;
+    let number = parse_number(word).ok_or(Refusal::Invalid)?;
+    Ok(Call::On { number, call: it })
+}
+
+// .. and another number
+fn on_number_with_number<F: FnOnce(u64) -> EntryCall>(
+    mut words: Parts,
+    make: F,
+) -> Result<Call, Refusal>
+    requires { F.IsAlwaysCallable make }
+    ensures { (it : ℕ → EntryCall) → ((value : ℕ) → (made : EntryCall) → F.post make value made → made ≡ it value) → Reads result (on_number_with number_of it words.entry) }
+{
+    let word = words.next().ok_or(Refusal::Invalid)?;
+    let number = parse_number(word).ok_or(Refusal::Invalid)?;
+    let word = only(words).ok_or(Refusal::Invalid)?;
+    let value = parse_number(word).ok_or(Refusal::Invalid)?;
+    let it = make(value);
+    Ok(Call::On { number, call: it })
+}
+
+// .. and bytes
+fn on_number_with_bytes<F: FnOnce(ByteString) -> EntryCall>(
+    alloc: Global,
+    mut words: Parts,
+    make: F,
+) -> Result<Call, Refusal>
+    requires { F.IsAlwaysCallable make }
+    ensures { (it : List ℕ → EntryCall) → ((value : List ℕ) → (made : EntryCall) → F.post make value made → made ≡ it value) → Reads result (on_number_with byte_string_of it words.entry) }
+{
+    let word = words.next().ok_or(Refusal::Invalid)?;
+    let number = parse_number(word).ok_or(Refusal::Invalid)?;
+    let bytes = ByteString::read(alloc, only(words).ok_or(Refusal::Invalid)?)?;
+    let it = make(bytes);
+    Ok(Call::On { number, call: it })
 }
 
 // a call on an entry of any kind, or on none
 fn parse_other_call(name: &[u8], words: Parts) -> Option<Call>
     ensures { result ≡ meaning_by other_calls (name.now ∷ words.entry) }
 {
-    if is(name, b"subscribe") {
-        let number = parse_number(only(words)?)?;
-        Some(Call::Subscribe { number })
-    } else if is(name, b"ready") {
-        let number = parse_number(only(words)?)?;
-        Some(Call::Ready { number })
-    } else if is(name, b"block") {
-        let number = parse_number(only(words)?)?;
-        Some(Call::Block { number })
-    } else if is(name, b"drop") {
+    if is(name, b"drop") {
         let number = parse_number(only(words)?)?;
         Some(Call::Drop { number })
     } else if is(name, b"exit") {
         let status = parse_status(only(words)?)?;
-        Some(Call::Exit { status })
+        Some(Call::Own(OwnCall::Exit { status }))
     } else if is(name, b"exit-code") {
         let code = parse_exit_code(only(words)?)?;
-        Some(Call::ExitCode { code })
+        Some(Call::Own(OwnCall::ExitCode { code }))
     } else {
         None
     }

@@ -6,17 +6,17 @@ mod declarations;
 mod forms;
 mod lines;
 mod name;
+mod name_set;
 mod numbers;
 mod parse;
 mod parts;
 mod plan;
 mod refusal;
-mod streams;
 
 pub use bytes::ByteString;
 pub use lines::{
-    Access, Call, EntryCall, ExitStatus, Input, InputDeclaration, Line, Output, OutputDeclaration, OwnCall,
-    Setting, Standard, WorkerTurn,
+    Access, Call, EntryCall, ExitStatus, Input, InputDeclaration, Line, Output, OutputDeclaration,
+    OwnCall, Setting, Standard, WorkerTurn,
 };
 pub use name::Name;
 pub use parse::{Script, ScriptError, parse_script};

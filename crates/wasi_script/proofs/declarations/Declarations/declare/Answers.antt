@@ -11,6 +11,7 @@ returns-in-Call-clause-ok c =
     (λ i. record {
       is_guest = λ number. get_or c.args.self.now.declared number false;
       was_called = λ number. set_also c.args.self.now.called c.in-Call.guest within number i;
-      streams = c.args.self.now.streams;
+      inputs = c.args.self.now.inputs;
+      outputs = c.args.self.now.outputs;
     })
     ∙ ap (names_after (names_in c.args.self.now)) (sym c.in-Call.is)

@@ -8,4 +8,4 @@ none_declared (suc count) zero = refl
 none_declared (suc count) (suc number) = none_declared count number
 
 pub returns : goal.returns
-returns c = λ i. record { is_guest = λ number. none_declared 64 number i; was_called = λ number. none_declared 64 number i; streams = c.none.ensures i }
+returns c = λ i. record { is_guest = λ number. none_declared 64 number i; was_called = λ number. none_declared 64 number i; inputs = c.none.ensures i; outputs = c.none-2.ensures i }
