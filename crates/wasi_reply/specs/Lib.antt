@@ -1,3 +1,4 @@
+pub mod Field
 pub mod Outputs
 pub mod Piece
 pub mod Reply

@@ -3,6 +3,8 @@
 
 mod piece;
 mod reply;
+mod text;
 
 pub use piece::Piece;
 pub use reply::{Reply, Told, Worked};
+pub use text::{push_line, push_output};
