@@ -1,11 +1,11 @@
 -- The lines that tell what the declared outputs took.
 use Rattle.std.specs.Prelude.{ℕ, List, [], ◌∷◌, ◌++◌, codes}
 use Rattle.std.specs.List.{flat_map}
-use Rattle.wasi_reply.specs.Reply.{hex_of}
+use Rattle.wasi_reply.specs.Field.{Field, worded}
 
 -- an output's name, and the bytes that it took
 abbrev pub output_line : List ℕ × List ℕ → List ℕ
-output_line output = codes "output " ++ (output.0 ++ (codes " " ++ (hex_of output.1 ++ 10 ∷ [])))
+output_line output = codes "output " ++ (worded (output.0, Field.Hex output.1 ∷ []) ++ 10 ∷ [])
 
 abbrev pub output_lines : List (List ℕ × List ℕ) → List ℕ
 output_lines outputs = flat_map output_line outputs

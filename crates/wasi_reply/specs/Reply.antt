@@ -1,46 +1,43 @@
 -- What a step replies, and the text of it.
 use Rattle.std.specs.Prelude.{ℕ, Bool, true, false, List, [], ◌∷◌, ◌++◌, codes}
-use Rattle.std.specs.Fmt.{decimal}
 use Rattle.std.specs.List.{flat_map}
-use Rattle.hex.specs.Hex.{encode_lower}
-use Rattle.wasi_base.specs.IoKind.{kind_name}
-use Rattle.wasi_base.specs.TrapText.{trap_text}
 use Rattle.wasi_reply.specs.declared.reply.Told.{Told}
 use Rattle.wasi_reply.specs.declared.reply.Told.TheVariants as told
 use Rattle.wasi_reply.specs.declared.reply.Worked.{Worked}
 use Rattle.wasi_reply.specs.declared.reply.Worked.TheVariants as worked
 use Rattle.wasi_reply.specs.declared.reply.Reply.{Reply}
 use Rattle.wasi_reply.specs.declared.reply.Reply.TheVariants as reply
+use Rattle.wasi_reply.specs.Field.{Field, worded}
+pub use Rattle.wasi_reply.specs.Field.{hex_of}
 
--- lower-case hexadecimal, `-` for none
-abbrev pub hex_of : List ℕ → List ℕ
-hex_of [] = codes "-"
-hex_of (byte ∷ bytes) = encode_lower (byte ∷ bytes)
+-- a reply's word, and its fields
+abbrev pub told_fields : Told → List ℕ × List Field
+told_fields told.Ok = (codes "ok", [])
+told_fields (told.Bytes bytes) = (codes "bytes", Field.Hex bytes ∷ [])
+told_fields (told.Count count) = (codes "count", Field.Number count ∷ [])
+told_fields (told.Truth true) = (codes "true", [])
+told_fields (told.Truth false) = (codes "false", [])
+told_fields told.Pending = (codes "pending", [])
+told_fields told.Closed = (codes "closed", [])
+told_fields (told.Failed kind) = (codes "failed", Field.Kind kind ∷ [])
+told_fields (told.Trap trap) = (codes "trap", Field.Trap trap ∷ [])
+told_fields (told.Exit status) = (codes "exit", Field.Number status ∷ [])
 
-abbrev pub told_text : Told → List ℕ
-told_text told.Ok = codes "ok"
-told_text (told.Bytes bytes) = codes "bytes " ++ hex_of bytes
-told_text (told.Count count) = codes "count " ++ decimal count
-told_text (told.Truth true) = codes "true"
-told_text (told.Truth false) = codes "false"
-told_text told.Pending = codes "pending"
-told_text told.Closed = codes "closed"
-told_text (told.Failed kind) = codes "failed " ++ kind_name kind
-told_text (told.Trap trap) = codes "trap " ++ trap_text trap
-told_text (told.Exit status) = codes "exit " ++ decimal status
+abbrev pub worked_fields : Worked → List ℕ × List Field
+worked_fields (worked.Captured size) = (codes "captured", Field.Number size ∷ [])
+worked_fields worked.Idle = (codes "idle", [])
+worked_fields (worked.Gave count) = (codes "gave", Field.Number count ∷ [])
+worked_fields worked.End = (codes "end", [])
+worked_fields (worked.Fault kind) = (codes "fault", Field.Kind kind ∷ [])
 
-abbrev pub worked_text : Worked → List ℕ
-worked_text (worked.Captured size) = codes "captured " ++ decimal size
-worked_text worked.Idle = codes "idle"
-worked_text (worked.Gave count) = codes "gave " ++ decimal count
-worked_text worked.End = codes "end"
-worked_text (worked.Fault kind) = codes "fault " ++ kind_name kind
+abbrev pub fields_of : Reply → List ℕ × List Field
+fields_of (reply.Handle number) = (codes "handle", Field.Number number ∷ [])
+fields_of (reply.Told it) = told_fields it
+fields_of reply.Ended = (codes "ended", [])
+fields_of (reply.Worked it) = worked_fields it
 
 abbrev pub text_of : Reply → List ℕ
-text_of (reply.Handle number) = codes "handle " ++ decimal number
-text_of (reply.Told it) = told_text it
-text_of reply.Ended = codes "ended"
-text_of (reply.Worked it) = worked_text it
+text_of it = worded (fields_of it)
 
 -- each reply on a line
 abbrev pub reply_line : Reply → List ℕ
