@@ -1,3 +1,4 @@
 pub mod KindFacts
 pub mod SourceFacts
 pub mod SinkFacts
+pub mod StandardFacts

@@ -1,6 +1,8 @@
 -- The words for kinds of fault.
 use Rattle.std.specs.Prelude.{ℕ, List, [], ◌∷◌, codes, Option, Some, None, cond}
 use Rattle.std.specs.Str.{bytes_eq}
+use Rattle.std.specs.declared.io.ErrorKind.{ErrorKind}
+use Rattle.std.specs.declared.io.ErrorKind.TheVariants as system
 use Rattle.wasi_base.specs.declared.io_kind.IoKind.{IoKind}
 use Rattle.wasi_base.specs.declared.io_kind.IoKind.TheVariants.{BrokenPipe, NotFound, PermissionDenied, IsADirectory, WriteZero, Interrupted, InvalidData, Other}
 
@@ -24,3 +26,14 @@ named_among (kind ∷ others) name = cond (bytes_eq name (kind_name kind)) (Some
 
 abbrev pub kind_named : List ℕ → Option IoKind
 kind_named name = named_among kinds name
+
+-- a kind of the system's as one of these
+abbrev pub kind_from : ErrorKind → IoKind
+kind_from system.BrokenPipe = BrokenPipe
+kind_from system.NotFound = NotFound
+kind_from system.PermissionDenied = PermissionDenied
+kind_from system.IsADirectory = IsADirectory
+kind_from system.WriteZero = WriteZero
+kind_from system.Interrupted = Interrupted
+kind_from system.InvalidData = InvalidData
+kind_from _ = Other

@@ -6,3 +6,4 @@ pub mod Causes
 pub mod Source
 pub mod Sink
 pub mod Memory
+pub mod Standard

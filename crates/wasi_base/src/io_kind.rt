@@ -1,5 +1,7 @@
 ghost use Rattle.std.specs.Prelude.{◌≡◌};
-ghost use Rattle.wasi_base.specs.IoKind.{kind_name, kind_named};
+ghost use Rattle.wasi_base.specs.IoKind.{kind_name, kind_named, kind_from};
+
+use std::io;
 
 /// The kinds of fault that a source or a sink tells, by the names of std's `io::ErrorKind`.
 #[derive(Clone, Copy, Debug, PartialEq, Eq, Drop)]
@@ -41,6 +43,24 @@ impl IoKind {
             }
         }
         None
+    }
+}
+
+/// The system's kinds by their own names; every kind without one here is `Other`.
+impl From<io::ErrorKind> for IoKind {
+    ghost from_gives = { λ kind result. result ≡ kind_from kind };
+
+    fn from(kind: io::ErrorKind) -> IoKind {
+        match kind {
+            io::ErrorKind::BrokenPipe => IoKind::BrokenPipe,
+            io::ErrorKind::NotFound => IoKind::NotFound,
+            io::ErrorKind::PermissionDenied => IoKind::PermissionDenied,
+            io::ErrorKind::IsADirectory => IoKind::IsADirectory,
+            io::ErrorKind::WriteZero => IoKind::WriteZero,
+            io::ErrorKind::Interrupted => IoKind::Interrupted,
+            io::ErrorKind::InvalidData => IoKind::InvalidData,
+            _ => IoKind::Other,
+        }
     }
 }
 

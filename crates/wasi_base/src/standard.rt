@@ -1,22 +1,23 @@
-ghost use Rattle.std.specs.Prelude.{◌≡◌, None};
-ghost use Rattle.wasi_base.specs.Causes.{Rose};
+ghost use Rattle.std.specs.Prelude.{◌≡◌, ◌<◌, ◌≤◌, length, IfOk, None, Ok};
+ghost use Rattle.std.specs.IoError.{error_kind};
+ghost use Rattle.std.specs.Io.KnownBytes.{Keeps, ReadConsumes, WriteAppends};
+ghost use Rattle.wasi_base.specs.Causes.{Rose, HasCause};
+ghost use Rattle.wasi_base.specs.IoKind.{kind_from};
+ghost use Rattle.wasi_base.specs.Source.{Gives, given_in};
 
 use crate::{IoKind, Sink, Source};
 use std::io::{Read, Write};
 use std::rt::Files;
 use std::{fs, io};
 
-fn kind_of(error: &io::Error) -> IoKind {
-    match error.kind() {
-        io::ErrorKind::BrokenPipe => IoKind::BrokenPipe,
-        io::ErrorKind::NotFound => IoKind::NotFound,
-        io::ErrorKind::PermissionDenied => IoKind::PermissionDenied,
-        io::ErrorKind::IsADirectory => IoKind::IsADirectory,
-        io::ErrorKind::WriteZero => IoKind::WriteZero,
-        io::ErrorKind::Interrupted => IoKind::Interrupted,
-        io::ErrorKind::InvalidData => IoKind::InvalidData,
-        _ => IoKind::Other,
-    }
+// the fault as a kind, and counted
+fn counted(faults: &mut u64, error: &io::Error) -> IoKind
+    ensures kind { result ≡ kind_from (error_kind error.now) }
+    ensures later { faults.old ≤ faults.new }
+    ensures rose { Rose faults.old faults.new }
+{
+    *faults = faults.saturating_add(1);
+    IoKind::from(error.kind())
 }
 
 /// A file of the system as a source. It is opened at the first read into a buffer with room, so
@@ -41,31 +42,34 @@ impl<'a, R: Files> FileSource<'a, R> {
 }
 
 impl<'a, R: Files> Source for FileSource<'a, R> {
+    ghost use Rattle.wasi_base.specs.Standard.{file_left};
+
     ghost told = { λ _. None };
 
     ghost faults = { λ s. s.faults };
 
-    fn read(&mut self, buf: &mut [u8]) -> Result<usize, IoKind> {
+    fn read(&mut self, buf: &mut [u8]) -> Result<usize, IoKind>
+        ensures bound { IfOk result (λ n. n ≤ length buf.new) }
+        ensures nothing { length buf.old ≡ 0 → (result ≡ Ok 0) × (self.new ≡ self.old) }
+        ensures gives { 0 < length buf.old → Gives None (length buf.old) (given_in result buf.new) None }
+        ensures cause { HasCause self.old.faults self.new.faults result }
+        // an open file goes on where it stood
+        ensures bytes { ReadConsumes (file_left R.File.remaining self.old) (file_left R.File.remaining self.new) result buf.new }
+    {
         if buf.is_empty() {
             return Ok(0);
         }
         if self.file.is_none() {
             match fs::open(self.runtime, self.path.as_str()) {
                 Ok(file) => self.file = Some(file),
-                Err(error) => {
-                    self.faults = self.faults.saturating_add(1);
-                    return Err(kind_of(&error));
-                }
+                Err(error) => return Err(counted(&mut self.faults, &error)),
             }
         }
         match &mut self.file {
             None => Ok(0),
             Some(file) => match file.read(buf) {
                 Ok(count) => Ok(count),
-                Err(error) => {
-                    self.faults = self.faults.saturating_add(1);
-                    Err(kind_of(&error))
-                }
+                Err(error) => Err(counted(&mut self.faults, &error)),
             },
         }
     }
@@ -93,23 +97,29 @@ impl<'a, R: Files> FileSink<'a, R> {
 }
 
 impl<'a, R: Files> Sink for FileSink<'a, R> {
+    ghost use Rattle.wasi_base.specs.Standard.{file_took};
+
     ghost taken = { λ _. None };
 
     ghost limits = { λ _. None };
 
     ghost faults = { λ s. s.faults };
 
-    fn write(&mut self, piece: &[u8]) -> Result<usize, IoKind> {
+    fn write(&mut self, piece: &[u8]) -> Result<usize, IoKind>
+        ensures bound { IfOk result (λ n. n ≤ length piece.now) }
+        ensures nothing { length piece.now ≡ 0 → (result ≡ Ok 0) × (self.new ≡ self.old) }
+        ensures some { 0 < length piece.now → IfOk result (λ n. 0 < n) }
+        ensures cause { HasCause self.old.faults self.new.faults result }
+        // an open file takes what is answered, after what it took before
+        ensures bytes { WriteAppends (file_took R.File.contents self.old) (file_took R.File.contents self.new) result piece.now }
+    {
         if piece.is_empty() {
             return Ok(0);
         }
         if self.file.is_none() {
             match fs::create(self.runtime, self.path.as_str()) {
                 Ok(file) => self.file = Some(file),
-                Err(error) => {
-                    self.faults = self.faults.saturating_add(1);
-                    return Err(kind_of(&error));
-                }
+                Err(error) => return Err(counted(&mut self.faults, &error)),
             }
         }
         match &mut self.file {
@@ -123,23 +133,20 @@ impl<'a, R: Files> Sink for FileSink<'a, R> {
                     Err(IoKind::WriteZero)
                 }
                 Ok(count) => Ok(count),
-                Err(error) => {
-                    self.faults = self.faults.saturating_add(1);
-                    Err(kind_of(&error))
-                }
+                Err(error) => Err(counted(&mut self.faults, &error)),
             },
         }
     }
 
-    fn flush(&mut self) -> Result<(), IoKind> {
+    fn flush(&mut self) -> Result<(), IoKind>
+        ensures cause { HasCause self.old.faults self.new.faults result }
+        ensures bytes { Keeps (file_took R.File.contents self.old) (file_took R.File.contents self.new) }
+    {
         match &mut self.file {
             None => Ok(()),
             Some(file) => match file.flush() {
                 Ok(()) => Ok(()),
-                Err(error) => {
-                    self.faults = self.faults.saturating_add(1);
-                    Err(kind_of(&error))
-                }
+                Err(error) => Err(counted(&mut self.faults, &error)),
             },
         }
     }
@@ -153,26 +160,36 @@ pub struct StdSource<R: Read + Drop> {
 }
 
 impl<R: Read + Drop> StdSource<R> {
-    pub fn new(reader: R) -> StdSource<R> {
+    ghost use Rattle.wasi_base.specs.Standard.{reader_left};
+
+    pub fn new(reader: R) -> StdSource<R>
+        ensures { reader_left R.remaining result ≡ R.remaining reader }
+    {
         StdSource { reader, faults: 0 }
     }
 }
 
 impl<R: Read + Drop> Source for StdSource<R> {
+    ghost use Rattle.wasi_base.specs.Standard.{reader_left};
+
     ghost told = { λ _. None };
 
     ghost faults = { λ s. s.faults };
 
-    fn read(&mut self, buf: &mut [u8]) -> Result<usize, IoKind> {
+    fn read(&mut self, buf: &mut [u8]) -> Result<usize, IoKind>
+        ensures bound { IfOk result (λ n. n ≤ length buf.new) }
+        ensures nothing { length buf.old ≡ 0 → (result ≡ Ok 0) × (self.new ≡ self.old) }
+        ensures gives { 0 < length buf.old → Gives None (length buf.old) (given_in result buf.new) None }
+        ensures cause { HasCause self.old.faults self.new.faults result }
+        // what the reader tells is neither lost nor changed
+        ensures bytes { ReadConsumes (reader_left R.remaining self.old) (reader_left R.remaining self.new) result buf.new }
+    {
         if buf.is_empty() {
             return Ok(0);
         }
         match self.reader.read(buf) {
             Ok(count) => Ok(count),
-            Err(error) => {
-                self.faults = self.faults.saturating_add(1);
-                Err(kind_of(&error))
-            }
+            Err(error) => Err(counted(&mut self.faults, &error)),
         }
     }
 }
@@ -185,19 +202,32 @@ pub struct StdSink<W: Write + Drop> {
 }
 
 impl<W: Write + Drop> StdSink<W> {
-    pub fn new(writer: W) -> StdSink<W> {
+    ghost use Rattle.wasi_base.specs.Standard.{writer_took};
+
+    pub fn new(writer: W) -> StdSink<W>
+        ensures { writer_took W.contents result ≡ W.contents writer }
+    {
         StdSink { writer, faults: 0 }
     }
 }
 
 impl<W: Write + Drop> Sink for StdSink<W> {
+    ghost use Rattle.wasi_base.specs.Standard.{writer_took};
+
     ghost taken = { λ _. None };
 
     ghost limits = { λ _. None };
 
     ghost faults = { λ s. s.faults };
 
-    fn write(&mut self, piece: &[u8]) -> Result<usize, IoKind> {
+    fn write(&mut self, piece: &[u8]) -> Result<usize, IoKind>
+        ensures bound { IfOk result (λ n. n ≤ length piece.now) }
+        ensures nothing { length piece.now ≡ 0 → (result ≡ Ok 0) × (self.new ≡ self.old) }
+        ensures some { 0 < length piece.now → IfOk result (λ n. 0 < n) }
+        ensures cause { HasCause self.old.faults self.new.faults result }
+        // the writer takes what is answered, after what it took before
+        ensures bytes { WriteAppends (writer_took W.contents self.old) (writer_took W.contents self.new) result piece.now }
+    {
         if piece.is_empty() {
             return Ok(0);
         }
@@ -207,20 +237,17 @@ impl<W: Write + Drop> Sink for StdSink<W> {
                 Err(IoKind::WriteZero)
             }
             Ok(count) => Ok(count),
-            Err(error) => {
-                self.faults = self.faults.saturating_add(1);
-                Err(kind_of(&error))
-            }
+            Err(error) => Err(counted(&mut self.faults, &error)),
         }
     }
 
-    fn flush(&mut self) -> Result<(), IoKind> {
+    fn flush(&mut self) -> Result<(), IoKind>
+        ensures cause { HasCause self.old.faults self.new.faults result }
+        ensures bytes { Keeps (writer_took W.contents self.old) (writer_took W.contents self.new) }
+    {
         match self.writer.flush() {
             Ok(()) => Ok(()),
-            Err(error) => {
-                self.faults = self.faults.saturating_add(1);
-                Err(kind_of(&error))
-            }
+            Err(error) => Err(counted(&mut self.faults, &error)),
         }
     }
 }
