@@ -10,7 +10,6 @@ use Rattle.wasi_stdin.specs.Shared.{Shared, Reading, Skipped, Polling, skipped, 
 use Rattle.wasi_stdin.specs.Shared as stdin
 use Rattle.wasi_script.specs.declared.lines.Input.{Input}
 use Rattle.wasi_script.specs.declared.lines.Input.TheVariants as input
-use Rattle.wasi_script.specs.declared.lines.Output.{Output}
 use Rattle.wasi_script.specs.declared.lines.Standard.{Standard}
 use Rattle.wasi_script.specs.declared.lines.Standard.TheVariants as standard
 use Rattle.wasi_script.specs.declared.lines.Access.{Access}
@@ -34,19 +33,10 @@ use Rattle.wasi_host.specs.declared.stream.OutStream.{OutStream}
 use Rattle.wasi_host.specs.declared.deed.Deed.{Deed}
 use Rattle.wasi_host.specs.declared.deed.Deed.TheVariants.{Tell, Make, Change}
 use Rattle.wasi_host.specs.Deeds.{Own}
+pub use Rattle.wasi_host.specs.declared.settings.Settings.{Settings}
+pub use Rattle.wasi_host.specs.declared.owner.Owner.{Owner}
 use Rattle.wasi_host.specs.InStreams.{input_read, input_skip, input_poll_read, after_input_read}
 use Rattle.wasi_host.specs.OutStreams.{output_check_write, output_write, after_output_write, output_flush, after_output_flush, output_poll_write, after_output_poll_write, output_poll_flush}
-
--- what configuration lines say of a guest
-pub record Settings : Type 0 where
-  pub input : Input
-  pub stdout : Output
-  pub stderr : Output
-
--- whose call it is: a guest's, by the number of an entry
-pub record Owner : Type 0 where
-  pub guest : ℕ
-  pub number : ℕ
 
 -- what is to be done, and what is left of what the entry is on
 pub record Doing (S : Type 0) : Type 0 where

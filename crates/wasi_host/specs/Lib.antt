@@ -4,3 +4,9 @@ pub mod InStreams
 pub mod OutStreams
 pub mod Calls
 pub mod Host
+pub mod Run
+pub mod View
+pub mod Transcript
+pub mod Laws
+pub mod Codes
+pub mod lemmas

@@ -1,16 +1,13 @@
-ghost use Rattle.std.specs.Prelude.{◌≡◌, ◌≤◌, IfOk, OnErr, Some, None, MatchOption, MatchResult, Option, ℕ, true};
-ghost use Rattle.wasi_table.specs.Table.{new_table, push_refusal, is_live};
-ghost use Rattle.wasi_host.specs.Calls.{Own, made, refused, entry_at, read_at, skip_at, poll_at, subscribe_at, ready_at, block_at, drop_at, writer_at, polled_writer_at, writer_for};
-ghost use Rattle.wasi_session.specs.Refusals.{refusal_of, is_always};
+ghost use Rattle.std.specs.Prelude.{◌≡◌, ◌≤◌, IfOk, OnErr, None, Some, MatchOption, Option, ℕ, true, false};
+ghost use Rattle.wasi_table.specs.Table.{new_table, is_live};
+ghost use Rattle.wasi_host.specs.Deeds.{Own, act, made, goes_under, may_change, with_kept, entry_at, dropped};
+ghost use Rattle.wasi_session.specs.Makes.{IsMake};
 
-use crate::input::StandardInput;
-use crate::waits::{blocking, polling};
 use std::alloc::Global;
 use std::marker::Model;
 use wasi_base::{OutOfMemory, TrapText};
-use wasi_host::{Entry, Reply, Standard};
-use wasi_script::OutputCall;
-use wasi_stdin::Wait;
+use wasi_host::{Deed, Entry};
+use wasi_reply::{Reply, Told};
 use wasi_table::{ResourceTable, TableError};
 
 /// What a guest owns: its entries by their numbers, and how many it may have.
@@ -20,14 +17,21 @@ pub struct Own {
 }
 
 impl Model for Own {
-    ghost use Rattle.wasi_host.specs.Calls.{Own};
+    ghost use Rattle.wasi_host.specs.contracts.entry.Entry.{the_row as entry_row};
+    ghost use Rattle.wasi_host.specs.Deeds.{Own};
     ghost use Rattle.wasi_host.specs.Codes.{own_code};
 
     ghost Value = { Own };
 
-    ghost coded = { own_code };
+    ghost coded = { own_code entry_row.coded };
 
     ghost view = { λ o. record { table = o.table } };
+}
+
+fn trap(text: TrapText) -> Reply
+    ensures { result ≡ Reply.Told (Told.Trap text) }
+{
+    Reply::Told(Told::Trap(text))
 }
 
 impl Own {
@@ -40,6 +44,15 @@ impl Own {
         Own {
             table: ResourceTable::new(alloc, capacity),
         }
+    }
+
+    /// Room for this many entries, and none of them.
+    pub fn resize(&mut self, alloc: Global, capacity: u32)
+        requires low { 1 ≤ capacity }
+        requires high { capacity ≤ 65536 }
+        ensures { self.new ≡ record { table = new_table capacity } }
+    {
+        self.table = ResourceTable::new(alloc, capacity);
     }
 
     /// Drops all entries.
@@ -57,17 +70,118 @@ impl Own {
         u32::try_from(number).ok()
     }
 
-    // The number of a live entry of this kind, else why there is none.
-    fn find(&self, number: u64, kind: u32) -> Result<u32, TrapText>
-        ensures { MatchResult result (λ found. (found ≡ number) × (refusal_of kind (entry_at self.now number) ≡ None)) (λ trap. refusal_of kind (entry_at self.now number) ≡ Some trap) }
+    /// What stands at a number.
+    pub fn entry(&self, number: u64) -> Option<Entry>
+        ensures { result ≡ entry_at self.now number }
     {
-        let Some(narrow) = self.narrow(number) else {
-            return Err(TrapText::ResourceNotPresent);
-        };
+        let narrow = self.narrow(number)?;
+        let kind = self.table.kind_of(narrow).ok()?;
         match self.table.get(narrow, kind) {
-            Ok(_) => Ok(narrow),
-            Err(TableError::NotPresent) => Err(TrapText::ResourceNotPresent),
-            Err(_) => Err(TrapText::ResourceWrongType),
+            Ok(entry) => Some(*entry),
+            Err(_) => None,
+        }
+    }
+
+    /// Does what a rule answers, and tells what is to be told. Want of memory does nothing.
+    pub fn act(&mut self, deed: Deed) -> Result<Reply, OutOfMemory>
+        ensures done { IfOk result (λ reply. record { reply = reply; own = self.new } ≡ act deed self.old) }
+        ensures err { OnErr result (self.new ≡ self.old) }
+        ensures made { OnErr result (IsMake deed) }
+    {
+        match deed {
+            Deed::Tell(told) => Ok(Reply::Told(told)),
+            Deed::Make { entry, parent } => match parent {
+                None => self.make_alone(entry),
+                Some(parent) => self.make_child(entry, parent),
+            },
+            Deed::Change {
+                number,
+                entry,
+                told,
+            } => Ok(self.change(number, entry, told)),
+        }
+    }
+
+    fn make_alone(&mut self, entry: Entry) -> Result<Reply, OutOfMemory>
+        ensures done { IfOk result (λ reply. record { reply = reply; own = self.new } ≡ act (Deed.Make entry None) self.old) }
+        ensures err { OnErr result (self.new ≡ self.old) }
+    {
+        if entry.stands_alone() {
+            self.make(entry)
+        } else {
+            Ok(trap(TrapText::ResourceWrongType))
+        }
+    }
+
+    fn make_child(&mut self, entry: Entry, parent: u64) -> Result<Reply, OutOfMemory>
+        ensures done { IfOk result (λ reply. record { reply = reply; own = self.new } ≡ act (Deed.Make entry (Some parent)) self.old) }
+        ensures err { OnErr result (self.new ≡ self.old) }
+    {
+        match self.parent_of(&entry, parent) {
+            Some(parent) => self.make_under(entry, parent),
+            None => Ok(trap(TrapText::ResourceWrongType)),
+        }
+    }
+
+    // the number of a live entry that this one may stand under
+    fn parent_of(&self, entry: &Entry, parent: u64) -> Option<u32>
+        ensures { MatchOption result (goes_under entry.now (entry_at self.now parent) ≡ false) (λ found. (found ≡ parent) × (goes_under entry.now (entry_at self.now parent) ≡ true) × (is_live self.now.table parent ≡ true)) }
+    {
+        let narrow = self.narrow(parent)?;
+        let kind = self.table.kind_of(narrow).ok()?;
+        match self.table.get(narrow, kind) {
+            Ok(there) => {
+                if entry.goes_under(there) {
+                    Some(narrow)
+                } else {
+                    None
+                }
+            }
+            Err(_) => None,
+        }
+    }
+
+    fn change(&mut self, number: u64, entry: Entry, told: Told) -> Reply
+        ensures { record { reply = result; own = self.new } ≡ act (Deed.Change number entry told) self.old }
+    {
+        match self.place_of(&entry, number) {
+            Some(place) => {
+                self.put(place, entry);
+                Reply::Told(told)
+            }
+            None => trap(TrapText::ResourceWrongType),
+        }
+    }
+
+    // the number of a live entry in whose place this one may stand
+    fn place_of(&self, entry: &Entry, number: u64) -> Option<u32>
+        ensures { MatchOption result (may_change (entry_at self.now number) entry.now ≡ false) (λ found. (found ≡ number) × (may_change (entry_at self.now number) entry.now ≡ true) × (is_live self.now.table number ≡ true)) }
+    {
+        let narrow = self.narrow(number)?;
+        let kind = self.table.kind_of(narrow).ok()?;
+        match self.table.get(narrow, kind) {
+            Ok(there) => {
+                if there.may_become(entry) {
+                    Some(narrow)
+                } else {
+                    None
+                }
+            }
+            Err(_) => None,
+        }
+    }
+
+    // another entry at a live number
+    fn put(&mut self, number: u32, entry: Entry)
+        requires { is_live self.old.table number ≡ true }
+        ensures { self.new ≡ with_kept self.old number entry }
+    {
+        let Ok(kind) = self.table.kind_of(number) else {
+            unreachable!();
+        };
+        match self.table.get_mut(number, kind) {
+            Ok(there) => *there = entry,
+            Err(_) => unreachable!(),
         }
     }
 
@@ -79,66 +193,7 @@ impl Own {
         match self.table.push(entry) {
             Ok(number) => Ok(Reply::Handle(number)),
             Err(TableError::OutOfMemory) => Err(OutOfMemory),
-            Err(_) => Ok(Reply::Trap(TrapText::ResourceTableFull)),
-        }
-    }
-
-    pub fn read<I: StandardInput>(
-        &self,
-        alloc: Global,
-        number: u64,
-        size: u64,
-        input: &mut I,
-    ) -> Result<Reply, OutOfMemory>
-        ensures done { IfOk result (λ reply. record { reply = reply; own = self.now; left = input.new } ≡ read_at I.manner (entry_at self.now number) size self.now input.old) }
-        ensures err { OnErr result (input.new ≡ input.old) }
-    {
-        match self.find(number, Entry::READER) {
-            Ok(_) => input.read(alloc, size),
-            Err(trap) => Ok(Reply::Trap(trap)),
-        }
-    }
-
-    pub fn skip<I: StandardInput>(&self, number: u64, size: u64, input: &mut I) -> Reply
-        ensures { record { reply = result; own = self.now; left = input.new } ≡ skip_at I.manner (entry_at self.now number) size self.now input.old }
-    {
-        match self.find(number, Entry::READER) {
-            Ok(_) => input.skip(size),
-            Err(trap) => Reply::Trap(trap),
-        }
-    }
-
-    pub fn poll_read<I: StandardInput>(
-        &mut self,
-        alloc: Global,
-        number: u64,
-        room: u64,
-        input: &mut I,
-    ) -> Result<Reply, OutOfMemory>
-        ensures done { IfOk result (λ reply. record { reply = reply; own = self.new; left = input.new } ≡ poll_at I.manner (entry_at self.old number) number room self.old input.old) }
-        ensures err { OnErr result ((self.new ≡ self.old) × (input.new ≡ input.old)) }
-    {
-        let found = match self.find(number, Entry::POLLED) {
-            Ok(found) => found,
-            Err(trap) => return Ok(Reply::Trap(trap)),
-        };
-        match self.table.get_mut(found, Entry::POLLED) {
-            Ok(entry) => polling(alloc, entry, room, input),
-            Err(_) => unreachable!(),
-        }
-    }
-
-    /// A pollable of a reader or a writer.
-    pub fn subscribe(&mut self, number: u64) -> Result<Reply, OutOfMemory>
-        ensures done { IfOk result (λ reply. record { reply = reply; own = self.new } ≡ subscribe_at (entry_at self.old number) number self.old) }
-        ensures err { OnErr result (self.new ≡ self.old) }
-    {
-        match self.find(number, Entry::READER) {
-            Ok(reader) => self.make_under(Entry::Pollable(Wait::new()), reader),
-            Err(_) => match self.find(number, Entry::WRITER) {
-                Ok(writer) => self.make_under(Entry::Always, writer),
-                Err(trap) => Ok(Reply::Trap(trap)),
-            },
+            Err(_) => Ok(trap(TrapText::ResourceTableFull)),
         }
     }
 
@@ -151,104 +206,23 @@ impl Own {
         match self.table.push_child(entry, parent) {
             Ok(number) => Ok(Reply::Handle(number)),
             Err(TableError::OutOfMemory) => Err(OutOfMemory),
-            Err(_) => Ok(Reply::Trap(TrapText::ResourceTableFull)),
-        }
-    }
-
-    // whether an always ready pollable stands at a number of a pollable
-    fn is_always(&self, found: u32) -> bool
-        ensures { result ≡ is_always (entry_at self.now found) }
-    {
-        matches!(self.table.get(found, Entry::POLLABLE), Ok(Entry::Always))
-    }
-
-    pub fn ready<I: StandardInput>(&self, number: u64, input: &mut I) -> Reply
-        ensures { record { reply = result; own = self.now; left = input.new } ≡ ready_at I.manner (entry_at self.now number) self.now input.old }
-    {
-        let found = match self.find(number, Entry::POLLABLE) {
-            Ok(found) => found,
-            Err(trap) => return Reply::Trap(trap),
-        };
-        if self.is_always(found) {
-            return Reply::Truth(true);
-        }
-        Reply::Truth(input.ready())
-    }
-
-    pub fn block<I: StandardInput>(&mut self, number: u64, input: &mut I) -> Reply
-        ensures { record { reply = result; own = self.new; left = input.new } ≡ block_at I.manner (entry_at self.old number) number self.old input.old }
-    {
-        let found = match self.find(number, Entry::POLLABLE) {
-            Ok(found) => found,
-            Err(trap) => return Reply::Trap(trap),
-        };
-        if self.is_always(found) {
-            return Reply::Truth(true);
-        }
-        match self.table.get_mut(found, Entry::POLLABLE) {
-            Ok(entry) => blocking(entry, input),
-            Err(_) => unreachable!(),
-        }
-    }
-
-    /// The output that a call writes to by a number, where that is of a writer of its kind.
-    pub fn writer(&self, number: u64, call: &OutputCall) -> Option<Standard>
-        ensures { result ≡ writer_for call.now (entry_at self.now number) }
-    {
-        match call {
-            OutputCall::CheckWrite | OutputCall::Write { .. } | OutputCall::Flush => {
-                self.plain_writer(number)
-            }
-            OutputCall::PollWrite { .. } | OutputCall::PollFlush => self.polled_writer(number),
-        }
-    }
-
-    fn plain_writer(&self, number: u64) -> Option<Standard>
-        ensures { result ≡ writer_at (entry_at self.now number) }
-    {
-        let narrow = self.narrow(number)?;
-        match self.table.get(narrow, Entry::WRITER) {
-            Ok(Entry::Writer(standard)) => Some(*standard),
-            Ok(_) | Err(_) => None,
-        }
-    }
-
-    fn polled_writer(&self, number: u64) -> Option<Standard>
-        ensures { result ≡ polled_writer_at (entry_at self.now number) }
-    {
-        let narrow = self.narrow(number)?;
-        match self.table.get(narrow, Entry::POLLED_WRITER) {
-            Ok(Entry::PolledWriter(standard)) => Some(*standard),
-            Ok(_) | Err(_) => None,
-        }
-    }
-
-    /// The refusal of a call on a number at which nothing stands that it takes.
-    pub fn refuse(&self, number: u64) -> Reply
-        ensures { record { reply = result; own = self.now } ≡ refused (entry_at self.now number) self.now }
-    {
-        let Some(narrow) = self.narrow(number) else {
-            return Reply::Trap(TrapText::ResourceNotPresent);
-        };
-        match self.table.kind_of(narrow) {
-            Ok(_) => Reply::Trap(TrapText::ResourceWrongType),
-            Err(_) => Reply::Trap(TrapText::ResourceNotPresent),
+            Err(_) => Ok(trap(TrapText::ResourceTableFull)),
         }
     }
 
     /// Takes an entry of any kind out.
     pub fn drop(&mut self, number: u64) -> Reply
-        ensures { record { reply = result; own = self.new } ≡ drop_at (entry_at self.old number) number self.old }
+        ensures { record { reply = result; own = self.new } ≡ dropped number self.old }
     {
         let Some(narrow) = self.narrow(number) else {
-            return Reply::Trap(TrapText::ResourceNotPresent);
+            return trap(TrapText::ResourceNotPresent);
         };
         let Ok(kind) = self.table.kind_of(narrow) else {
-            return Reply::Trap(TrapText::ResourceNotPresent);
+            return trap(TrapText::ResourceNotPresent);
         };
         match self.table.delete(narrow, kind) {
-            Ok(_) => Reply::Ok,
-            Err(_) => Reply::Trap(TrapText::ResourceHasChildren),
+            Ok(_) => Reply::Told(Told::Ok),
+            Err(_) => trap(TrapText::ResourceHasChildren),
         }
     }
 }

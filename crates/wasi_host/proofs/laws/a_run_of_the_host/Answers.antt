@@ -1,0 +1,5 @@
+use Rattle.wasi_host.specs.lemmas.Headline.{headline}
+use Rattle.wasi_host.proofs.laws.a_run_of_the_host.Goals as goal
+
+pub returns : goal.returns
+returns c = headline

@@ -1,0 +1,164 @@
+-- The laws on sessions, each the contract of a function of its own.
+use Rattle.std.specs.Prelude.{◌≡◌, ℕ, Bool, true, false, cond, is_some, ◌⊎◌, List, [], ◌∷◌, ◌++◌, map, length, take, Option, Some, None}
+use Rattle.std.specs.Map.{lookup}
+use Rattle.std.specs.Option.{option_map, option_and_then}
+use Rattle.std.specs.Str.{bytes_eq}
+use Rattle.wasi_base.specs.Source.{Told as Told'}
+use Rattle.wasi_script.specs.declared.lines.Standard.{Standard}
+use Rattle.wasi_script.specs.declared.lines.Standard.TheVariants as standard
+use Rattle.wasi_script.specs.declared.lines.EntryCall.{EntryCall}
+use Rattle.wasi_script.specs.declared.lines.EntryCall.TheVariants as on
+use Rattle.wasi_script.specs.declared.lines.Call.{Call}
+use Rattle.wasi_script.specs.declared.lines.Call.TheVariants as call
+use Rattle.wasi_script.specs.declared.lines.Line.{Line}
+use Rattle.wasi_script.specs.declared.lines.Line.TheVariants as line
+use Rattle.wasi_script.specs.Grammar.{AllStand, no_names}
+use Rattle.wasi_reply.specs.declared.reply.Told.{Told}
+use Rattle.wasi_reply.specs.declared.reply.Told.TheVariants as told
+use Rattle.wasi_reply.specs.declared.reply.Reply.{Reply}
+use Rattle.wasi_reply.specs.declared.reply.Reply.TheVariants as reply
+use Rattle.wasi_host.specs.declared.entry.Entry.{Entry}
+use Rattle.wasi_host.specs.declared.entry.Entry.TheVariants as entry
+use Rattle.wasi_host.specs.declared.entry.StreamEntry.{StreamEntry}
+use Rattle.wasi_host.specs.declared.entry.StreamEntry.TheVariants as at
+use Rattle.wasi_host.specs.declared.stream.InStream.{InStream}
+use Rattle.wasi_host.specs.declared.stream.InStream.TheVariants as in_stream
+use Rattle.wasi_host.specs.declared.stream.OutStream.{OutStream}
+use Rattle.wasi_host.specs.declared.stream.OutStream.TheVariants as out_stream
+use Rattle.wasi_host.specs.OutStreams.{taken_of}
+use Rattle.wasi_host.specs.Deeds.{Own, entry_at, act, apart}
+use Rattle.wasi_host.specs.Calls.{Settings, Owner, sent}
+use Rattle.wasi_host.specs.Host.{Guest, Host, Rules, host_end, new_host, step_reply, step_host, step_told, guest_of, called_in, Named, taken_out, put_back, input_at, put_input, output_at, put_output, Streams, answer_at}
+use Rattle.wasi_host.specs.View.{input_names, output_names, view, IsApart, replies_seen, outputs_seen, GuestsAreAlone}
+use Rattle.wasi_host.specs.Transcript.{ShowsRun, transcript, told_after_run, outputs_of}
+
+abbrev pub HostRuns : Type 0
+HostRuns = (steps : List Line) (told : Told') → AllStand no_names steps → ShowsRun steps told (told_after_run steps told) (transcript steps told)
+
+-- ---- what a call reaches
+-- whether a call is on an input of this name, on an output of it, and on the shared input, by the entry at its number
+abbrev pub entry_of : Call → Guest → Option Entry
+entry_of (call.On number it) guest = entry_at guest.own number
+entry_of other guest = None
+
+abbrev pub is_on_input : Option Entry → Settings → List ℕ → Bool
+is_on_input (Some (entry.Stream standard.Input it)) settings name = input_names settings.input name
+is_on_input other settings name = false
+
+abbrev pub is_on_output : Option Entry → Settings → List ℕ → Bool
+is_on_output (Some (entry.Stream standard.Output it)) settings name = output_names settings.stdout name
+is_on_output (Some (entry.Stream standard.Error it)) settings name = output_names settings.stderr name
+is_on_output other settings name = false
+
+abbrev pub is_on_shared : Option Entry → Bool
+is_on_shared (Some (entry.Shared it)) = true
+is_on_shared other = false
+
+-- What a call of a guest leaves of all else: the other guests, its own settings, each stream but the one that it is on,
+-- and the shared input, unless it is on that.
+pub record InReach (on : Option Entry) (host after : Host) (g : ℕ) (guest : Guest) : Type 0 where
+  pub others : (m : ℕ) → (m ≡ g → ⊥) → guest_of after m ≡ guest_of host m
+  pub settings : option_map (λ (guest : Guest). guest.settings) (guest_of after g) ≡ Some guest.settings
+  pub inputs : (name : List ℕ) → is_on_input on guest.settings name ≡ false → lookup (bytes_eq name) after.streams.inputs ≡ lookup (bytes_eq name) host.streams.inputs
+  pub outputs : (name : List ℕ) → is_on_output on guest.settings name ≡ false → lookup (bytes_eq name) after.streams.outputs ≡ lookup (bytes_eq name) host.streams.outputs
+  pub shared : is_on_shared on ≡ false → after.shared ≡ host.shared
+
+-- whatever the rules of calls are
+abbrev pub CallsStayInReach : Type 0
+CallsStayInReach = (rules : Rules) (it : Call) (g : ℕ) (host : Host) (guest : Guest) → guest_of host g ≡ Some guest → InReach (entry_of it guest) host (called_in rules it g host) g guest
+
+-- A stream that is put back as it was taken out leaves all streams as they were, and what was put back is what is taken
+-- out next.
+pub record PutsBack {A : Type 0} (none : A) (name : List ℕ) (named : Named A) : Type 0 where
+  pub same : put_back name (taken_out none name named) named ≡ named
+  pub next : (it : A) → is_some (lookup (bytes_eq name) named) ≡ true → taken_out none name (put_back name it named) ≡ it
+
+abbrev pub InputsArePutBack : Type 0
+InputsArePutBack = (name : List ℕ) (inputs : Named InStream) → PutsBack in_stream.Closed name inputs
+
+abbrev pub OutputsArePutBack : Type 0
+OutputsArePutBack = (name : List ℕ) (outputs : Named OutStream) → PutsBack out_stream.Closed name outputs
+
+-- ---- isolation: two scripts of which a guest sees the same give it the same replies and the same bytes in its outputs,
+-- whatever their shared inputs tell
+pub record SeesSame (g : ℕ) (one two : List Line) (told other : Told') : Type 0 where
+  pub replies : replies_seen g one told ≡ replies_seen g two other
+  pub outputs : outputs_seen g one told ≡ outputs_seen g two other
+
+abbrev pub GuestsAreIsolated : Type 0
+GuestsAreIsolated = (g : ℕ) (one two : List Line) (told other : Told') → IsApart g one → IsApart g two → view g one ≡ view g two → SeesSame g one two told other
+
+-- in particular they are those of a session of the view alone
+abbrev pub EachIsAlone : Type 0
+EachIsAlone = (steps : List Line) (told : Told') → GuestsAreAlone steps told
+
+-- ---- what outputs take
+-- what an output took once a write of these bytes was told this: all of them, as many as were counted, none at a trap,
+-- or a first part
+abbrev pub Took : Told → List ℕ → List ℕ → List ℕ → Type 0
+Took told.Ok bytes before after = after ≡ before ++ bytes
+Took (told.Count count) bytes before after = after ≡ before ++ take count bytes
+Took (told.Trap text) bytes before after = after ≡ before
+Took other bytes before after = (count : ℕ) × (after ≡ before ++ take count bytes)
+
+-- the reply to a call through an entry of this kind: only writes are told something that adds to the output
+abbrev pub TookBy : EntryCall → StreamEntry → Reply → List ℕ → List ℕ → Type 0
+TookBy (on.Write bytes) at.Plain answer before after = (it : Told) × (answer ≡ reply.Told it) × Took it bytes before after
+TookBy (on.PollWrite bytes) at.Polled answer before after = (it : Told) × (answer ≡ reply.Told it) × Took it bytes before after
+TookBy other entry answer before after = after ≡ before
+
+-- the outputs that lines declare
+abbrev pub is_declared : OutStream → Bool
+is_declared out_stream.Closed = false
+is_declared out_stream.Sink = false
+is_declared other = true
+
+-- whatever is called on a declared output stays one, and took what its reply says
+pub record Keeps (it : EntryCall) (entry : StreamEntry) (stream left : OutStream) (answer : Reply) : Type 0 where
+  pub declared : is_declared left ≡ true
+  pub took : TookBy it entry answer (taken_of stream) (taken_of left)
+
+abbrev pub OutputsKeep : Type 0
+OutputsKeep = (it : EntryCall) (to : Standard) (owner : Owner) (entry : StreamEntry) (stream : OutStream) (own : Own) → is_declared stream ≡ true → let done = sent it to owner entry stream in Keeps it entry stream done.left (act (apart done.deed) own).reply
+
+-- ---- outputs over a whole run
+-- what the output of a name took so far, once it is declared
+abbrev pub taken_at : List ℕ → Host → Option (List ℕ)
+taken_at name host = option_map taken_of (lookup (bytes_eq name) host.streams.outputs)
+
+-- the call that a step makes on the output of a name, if it makes one, and through what entry
+abbrev pub entry_call_on : List ℕ → EntryCall → Option Entry → Settings → Option (EntryCall × StreamEntry)
+entry_call_on name it (Some (entry.Stream standard.Output e)) settings = cond (output_names settings.stdout name) (Some (it, e)) None
+entry_call_on name it (Some (entry.Stream standard.Error e)) settings = cond (output_names settings.stderr name) (Some (it, e)) None
+entry_call_on name it other settings = None
+
+abbrev pub guest_call_on : List ℕ → Call → Guest → Option (EntryCall × StreamEntry)
+guest_call_on name (call.On number it) guest = cond guest.ended None (entry_call_on name it (entry_at guest.own number) guest.settings)
+guest_call_on name other guest = None
+
+abbrev pub step_call_on : List ℕ → Line → Host → Option (EntryCall × StreamEntry)
+step_call_on name (line.Call g it) host = option_and_then (guest_call_on name it) (guest_of host g)
+step_call_on name other host = None
+
+-- what its reply says that it took then; of any other step it takes nothing
+abbrev pub TookIf : Option (EntryCall × StreamEntry) → Reply → List ℕ → List ℕ → Type 0
+TookIf None answer before after = after ≡ before
+TookIf (Some on) answer before after = TookBy on.0 on.1 answer before after
+
+-- it is empty when it is declared, and stays declared
+abbrev pub Fills : Option (EntryCall × StreamEntry) → Reply → Option (List ℕ) → Option (List ℕ) → Type 0
+Fills on answer None after = (after ≡ None) ⊎ (after ≡ Some [])
+Fills on answer (Some before) after = (taken : List ℕ) × (after ≡ Some taken) × TookIf on answer before taken
+
+-- so it has, in the end, what each write of the run that went there added, in order
+abbrev pub FillsAll : List ℕ → List Line → Host → Told' → Type 0
+FillsAll name [] host told = Unit {0}
+FillsAll name (step ∷ steps) host told = Fills (step_call_on name step host) (step_reply step host told) (taken_at name host) (taken_at name (step_host step host told)) × FillsAll name steps (step_host step host told) (step_told step host told)
+
+-- .. and that is what the transcript's line of it prints
+pub record OutputFills (name : List ℕ) (steps : List Line) (told : Told') : Type 0 where
+  pub fills : FillsAll name steps new_host told
+  pub printed : lookup (bytes_eq name) (outputs_of (host_end steps new_host told).streams) ≡ taken_at name (host_end steps new_host told)
+
+abbrev pub OutputsFill : Type 0
+OutputsFill = (name : List ℕ) (steps : List Line) (told : Told') → OutputFills name steps told

@@ -1,0 +1,11 @@
+pub mod Entries
+pub mod Shown
+pub mod SharedCalls
+pub mod GuestCalls
+pub mod Deliveries
+pub mod Steps
+pub mod Headline
+pub mod Reach
+pub mod Isolation
+pub mod Kept
+pub mod Filled

@@ -1,0 +1,584 @@
+-- A guest's replies and outputs depend on its view alone. No rule is opened.
+use Rattle.std.proofs.lemmas.Bool.Decides.{nat_tests}
+use Rattle.std.proofs.Common.{◌≡◌, ℕ, zero, suc, arith, Bool, true, false, cond, List, [], ◌∷◌, ◌++◌, length, get_or, set, Option, Some, None, refl, ap, sym, ◌∙◌, subst, true≢false}
+use Rattle.std.specs.Prelude.{eqb, nat_eq, not, ◌&&◌, ◌||◌, replicate, unwrap_or, is_some, filter, map}
+use Rattle.std.specs.List.{list_any}
+use Rattle.std.specs.Map.{lookup, set_value}
+use Rattle.std.specs.Ordering.{nat_cmp}
+use Rattle.std.specs.FinMap as finmap
+use Rattle.std.specs.Option.{option_map}
+use Rattle.std.specs.Str.{bytes_eq}
+use Rattle.std.proofs.lemmas.Bool.{eqb-true, eq-eqb, false_from_ne_true}
+use Rattle.std.proofs.lemmas.Slice.Eq.{bytes_eq-Decides}
+use Rattle.std.proofs.Math.ListN.{length-set}
+use Rattle.wasi_base.specs.Source.{Told, Given}
+use Rattle.wasi_base.specs.declared.trap_text.TrapText.TheVariants.{ResourceNotPresent, ResourceWrongType, ResourceHasChildren, ResourceTableFull}
+use Rattle.wasi_table.specs.Table.{Held, held_at, entry_in, new_table, live_count, next_number, with_pushed, without, parent_in, has_children}
+use Rattle.wasi_table.specs.Laws.{held-insert, held-remove}
+use Rattle.wasi_stdin.specs.Shared.{Shared}
+use Rattle.wasi_script.specs.declared.lines.Input.{Input}
+use Rattle.wasi_script.specs.declared.lines.Input.TheVariants as input
+use Rattle.wasi_script.specs.declared.lines.Output.{Output}
+use Rattle.wasi_script.specs.declared.lines.Output.TheVariants as output
+use Rattle.wasi_script.specs.declared.lines.Standard.{Standard}
+use Rattle.wasi_script.specs.declared.lines.Standard.TheVariants as standard
+use Rattle.wasi_script.specs.declared.lines.Access.{Access}
+use Rattle.wasi_script.specs.declared.lines.Setting.{Setting}
+use Rattle.wasi_script.specs.declared.lines.Setting.TheVariants as setting
+use Rattle.wasi_script.specs.declared.lines.EntryCall.{EntryCall}
+use Rattle.wasi_script.specs.declared.lines.Call.{Call}
+use Rattle.wasi_script.specs.declared.lines.Call.TheVariants as call
+use Rattle.wasi_script.specs.declared.lines.Line.{Line}
+use Rattle.wasi_script.specs.declared.lines.Line.TheVariants as line
+use Rattle.wasi_reply.specs.declared.reply.Told.{Told as Answer}
+use Rattle.wasi_reply.specs.declared.reply.Told.TheVariants as tell
+use Rattle.wasi_reply.specs.declared.reply.Reply.{Reply}
+use Rattle.wasi_reply.specs.declared.reply.Reply.TheVariants as reply
+use Rattle.wasi_reply.specs.Reply.{ends}
+use Rattle.wasi_host.specs.declared.entry.Entry.{Entry}
+use Rattle.wasi_host.specs.declared.entry.Entry.TheVariants as entry
+use Rattle.wasi_host.specs.declared.entry.StreamEntry.{StreamEntry}
+use Rattle.wasi_host.specs.declared.stream.InStream.{InStream}
+use Rattle.wasi_host.specs.declared.stream.InStream.TheVariants as in_stream
+use Rattle.wasi_host.specs.declared.stream.OutStream.{OutStream}
+use Rattle.wasi_host.specs.declared.stream.OutStream.TheVariants as out_stream
+use Rattle.wasi_host.specs.declared.deed.Deed.{Deed}
+use Rattle.wasi_host.specs.declared.deed.Deed.TheVariants.{Tell, Make, Change}
+use Rattle.wasi_host.specs.OutStreams.{taken_of}
+use Rattle.wasi_host.specs.Deeds.{Own, Done, trapped, entry_at, may_make, may_change, made, with_kept, act, dropped, dropped_at, is_shared, apart}
+use Rattle.wasi_host.specs.Calls.{Owner, opened, stream_entry}
+use Rattle.wasi_host.specs.Host.{Named, Guest, left_own, left_guest, Streams, taken_out, put_back, input_at, put_input, output_at, put_output, Host, Rules, the_rules, Answered, guest_of, new_guest, configured, new_host, new_input, new_output, answer_at, answer_to, answer_by, answer_in, answer, given_for, size_read, step_reply, step_host, step_told, reply_by, host_by, replies, host_end}
+use Rattle.wasi_host.specs.Host as host
+use Rattle.wasi_host.specs.Run as run
+use Rattle.wasi_host.specs.Laws.{SeesSame}
+use Rattle.wasi_host.specs.View.{input_names, output_names, setting_names, line_names, names_by, is_guest, is_other, is_seen, view, shares, IsApart, kept_if, replies_to, replies_seen, outputs_seen, IsAlone}
+use Rattle.wasi_host.specs.lemmas.Reach.{input_apart, output_apart}
+
+-- ---- a place in a list
+set_alike : {A : Type 0} (xs ys : List A) (n m : ℕ) (x d : A) → length xs ≡ length ys → get_or xs m d ≡ get_or ys m d → get_or (set xs n x) m d ≡ get_or (set ys n x) m d
+set_alike [] [] n m x d len e = refl
+set_alike [] (b ∷ ys) n m x d len e = absurd (cc)
+set_alike (a ∷ xs) [] n m x d len e = absurd (cc)
+set_alike (a ∷ xs) (b ∷ ys) zero zero x d len e = refl
+set_alike (a ∷ xs) (b ∷ ys) zero (suc m) x d len e = e
+set_alike (a ∷ xs) (b ∷ ys) (suc n) zero x d len e = e
+set_alike (a ∷ xs) (b ∷ ys) (suc n) (suc m) x d len e = let shorter : length xs ≡ length ys = cc in set_alike xs ys n m x d shorter e
+
+set_apart : {A : Type 0} (xs : List A) (n m : ℕ) (x d : A) → nat_eq n m ≡ false → get_or (set xs n x) m d ≡ get_or xs m d
+set_apart [] n m x d apart = refl
+set_apart (a ∷ xs) zero zero x d apart = absurd (true≢false apart)
+set_apart (a ∷ xs) zero (suc m) x d apart = refl
+set_apart (a ∷ xs) (suc n) zero x d apart = refl
+set_apart (a ∷ xs) (suc n) (suc m) x d apart = let below : nat_eq n m ≡ false = grind (arith, nat_tests, apart) in set_apart xs n m x d below
+
+set_holds : {A : Type 0} (P : ℕ → Option A → Type 0) (xs : List (Option A)) (n : ℕ) (x : Option A) → ((m : ℕ) → P m (get_or xs m None)) → P n x → (m : ℕ) → P m (get_or (set xs n x) m None)
+set_holds P [] n x all new m = all m
+set_holds P (a ∷ xs) zero x all new zero = new
+set_holds P (a ∷ xs) zero x all new (suc m) = all (suc m)
+set_holds P (a ∷ xs) (suc n) x all new zero = all zero
+set_holds P (a ∷ xs) (suc n) x all new (suc m) = set_holds (λ m. P (suc m)) xs n x (λ m. all (suc m)) new m
+
+-- ---- the streams of the names that pass
+passing : (mine : List ℕ → Bool) (n key : List ℕ) (b : Bool) → mine n ≡ b → bytes_eq n key ≡ true → mine key ≡ b
+passing mine n key b e same = sym (ap mine ((bytes_eq-Decides n key).0 same)) ∙ e
+
+module _ {A : Type 0} (mine : List ℕ → Bool) where
+  abbrev pub kept : Named A → Named A
+  kept named = filter (λ row. mine row.0) named
+
+  kept_more : (named : Named A) (name : List ℕ) (it : A) → mine name ≡ true → kept (named ++ (name, it) ∷ []) ≡ kept named ++ (name, it) ∷ []
+  kept_more [] name it e = ap (λ b. cond b ((name, it) ∷ []) []) e
+  kept_more (row ∷ named) name it e = by (mine row.0) (kept_more named name it e)
+    where
+      by : (b : Bool) → kept (named ++ (name, it) ∷ []) ≡ kept named ++ (name, it) ∷ [] → cond b (row ∷ kept (named ++ (name, it) ∷ [])) (kept (named ++ (name, it) ∷ [])) ≡ cond b (row ∷ kept named) (kept named) ++ (name, it) ∷ []
+      by true rest = ap (λ rest. row ∷ rest) rest
+      by false rest = rest
+
+  kept_same : (named : Named A) (name : List ℕ) (it : A) → mine name ≡ false → kept (named ++ (name, it) ∷ []) ≡ kept named
+  kept_same [] name it e = ap (λ b. cond b ((name, it) ∷ []) []) e
+  kept_same (row ∷ named) name it e = ap (λ rest. cond (mine row.0) (row ∷ rest) rest) (kept_same named name it e)
+
+  -- what is put back under another's name
+  kept_other : (n : List ℕ) (it : A) (named : Named A) → mine n ≡ false → kept (put_back n it named) ≡ kept named
+  kept_other n it [] e = refl
+  kept_other n it (row ∷ named) e = by (bytes_eq n row.0) refl (kept_other n it named e)
+    where
+      by : (b : Bool) → bytes_eq n row.0 ≡ b → kept (put_back n it named) ≡ kept named → kept (cond b ((row.0, it) ∷ named) (row ∷ put_back n it named)) ≡ cond (mine row.0) (row ∷ kept named) (kept named)
+      by true same rest = let none = passing mine n row.0 false e same in ap (λ b. cond b ((row.0, it) ∷ kept named) (kept named)) none ∙ sym (ap (λ b. cond b (row ∷ kept named) (kept named)) none)
+      by false same rest = ap (λ rest. cond (mine row.0) (row ∷ rest) rest) rest
+
+  -- what is put back under an own name
+  kept_own : (n : List ℕ) (it : A) (named : Named A) → mine n ≡ true → kept (put_back n it named) ≡ put_back n it (kept named)
+  kept_own n it [] e = refl
+  kept_own n it (row ∷ named) e = by (bytes_eq n row.0) refl (kept_own n it named e)
+    where
+      own : (b : Bool) → bytes_eq n row.0 ≡ false → kept (put_back n it named) ≡ put_back n it (kept named) → cond b (row ∷ kept (put_back n it named)) (kept (put_back n it named)) ≡ put_back n it (cond b (row ∷ kept named) (kept named))
+      own true other rest = ap (λ rest. row ∷ rest) rest ∙ sym (ap (λ b. cond b ((row.0, it) ∷ kept named) (row ∷ put_back n it (kept named))) other)
+      own false other rest = rest
+
+      by : (b : Bool) → bytes_eq n row.0 ≡ b → kept (put_back n it named) ≡ put_back n it (kept named) → kept (cond b ((row.0, it) ∷ named) (row ∷ put_back n it named)) ≡ put_back n it (cond (mine row.0) (row ∷ kept named) (kept named))
+      by true same rest =
+          let some = passing mine n row.0 true e same in
+          ap (λ b. cond b ((row.0, it) ∷ kept named) (kept named)) some
+          ∙ sym (ap (λ b. cond b ((row.0, it) ∷ kept named) (row ∷ put_back n it (kept named))) same)
+          ∙ sym (ap (λ b. put_back n it (cond b (row ∷ kept named) (kept named))) some)
+      by false same rest = own (mine row.0) same rest
+
+  -- what is found under an own name
+  kept_found : (n : List ℕ) (named : Named A) → mine n ≡ true → lookup (bytes_eq n) (kept named) ≡ lookup (bytes_eq n) named
+  kept_found n [] e = refl
+  kept_found n (row ∷ named) e = by (bytes_eq n row.0) refl (mine row.0) refl (kept_found n named e)
+    where
+      by : (b : Bool) → bytes_eq n row.0 ≡ b → (c : Bool) → mine row.0 ≡ c → lookup (bytes_eq n) (kept named) ≡ lookup (bytes_eq n) named → lookup (bytes_eq n) (cond c (row ∷ kept named) (kept named)) ≡ cond (bytes_eq n row.0) (Some row.1) (lookup (bytes_eq n) named)
+      by b same true own rest = ap (cond (bytes_eq n row.0) (Some row.1)) rest
+      by true same false own rest = absurd (true≢false (sym (passing mine n row.0 true e same) ∙ own))
+      by false same false own rest = rest ∙ sym (ap (λ b. cond b (Some row.1) (lookup (bytes_eq n) named)) same)
+
+-- ---- a guest none of whose entries is on the shared input
+shared_in : Option (Held Entry) → Bool
+shared_in None = false
+shared_in (Some held) = is_shared held.entry
+
+abbrev Unshared : Own → Type 0
+Unshared own = (m : ℕ) → shared_in (held_at own.table m) ≡ false
+
+unshared_new : (capacity : ℕ) → Unshared (record { table = new_table capacity })
+unfolding shared_in
+unshared_new capacity m = ap shared_in (finmap.get-empty {X = Held Entry} nat_cmp m)
+
+from_put : (b : Bool) (new : Held Entry) (o : Option (Held Entry)) → is_shared new.entry ≡ false → shared_in o ≡ false → shared_in (cond b (Some new) o) ≡ false
+unfolding shared_in
+from_put true new o e old = e
+from_put false new o e old = old
+
+from_cut : (b : Bool) (o : Option (Held Entry)) → shared_in o ≡ false → shared_in (cond b None o) ≡ false
+unfolding shared_in
+from_cut true o old = refl
+from_cut false o old = old
+
+module _ (own : Own) (none : Unshared own) where
+  made_unshared : (it : Entry) (parent : Option ℕ) → is_shared it ≡ false → Unshared (made it parent own).own
+  made_unshared it parent e = by (nat_eq (live_count own.table) own.table.capacity)
+    where
+      by : (full : Bool) → Unshared (cond full (trapped ResourceTableFull own) (record { reply = reply.Handle (next_number own.table); own = record { table = with_pushed own.table it parent } })).own
+      by true = none
+      by false = λ m. ap shared_in (held-insert own.table.entries (next_number own.table) (record { entry = it; parent = parent }) m) ∙ from_put (eqb m (next_number own.table)) (record { entry = it; parent = parent }) (held_at own.table m) e (none m)
+
+  make_unshared : (it : Entry) (parent : Option ℕ) → is_shared it ≡ false → Unshared (act (Make it parent) own).own
+  make_unshared it parent e = by (may_make it parent own)
+    where
+      by : (may : Bool) → Unshared (cond may (made it parent own) (trapped ResourceWrongType own)).own
+      by true = made_unshared it parent e
+      by false = none
+
+  change_unshared : (n : ℕ) (it : Entry) (answer : Answer) → is_shared it ≡ false → Unshared (act (Change n it answer) own).own
+  change_unshared n it answer e = by (may_change (entry_at own n) it)
+    where
+      by : (may : Bool) → Unshared (cond may (record { reply = reply.Told answer; own = with_kept own n it }) (trapped ResourceWrongType own)).own
+      by true = λ m. ap shared_in (held-insert own.table.entries n (record { entry = it; parent = parent_in (held_at own.table n) }) m) ∙ from_put (eqb m n) (record { entry = it; parent = parent_in (held_at own.table n) }) (held_at own.table m) e (none m)
+      by false = none
+
+  apart_unshared : (deed : Deed) → Unshared (act (apart deed) own).own
+  apart_unshared (Tell it) = none
+  apart_unshared (Make it parent) = by (is_shared it) refl
+    where
+      by : (b : Bool) → is_shared it ≡ b → Unshared (act (cond b (Tell (tell.Trap ResourceWrongType)) (Make it parent)) own).own
+      by true e = none
+      by false e = make_unshared it parent e
+  apart_unshared (Change n it answer) = by (is_shared it) refl
+    where
+      by : (b : Bool) → is_shared it ≡ b → Unshared (act (cond b (Tell (tell.Trap ResourceWrongType)) (Change n it answer)) own).own
+      by true e = none
+      by false e = change_unshared n it answer e
+
+  dropped_unshared : (n : ℕ) (o : Option Entry) → Unshared (dropped_at o n own).own
+  dropped_unshared n None = none
+  dropped_unshared n (Some it) = by (has_children own.table n)
+    where
+      by : (has : Bool) → Unshared (cond has (trapped ResourceHasChildren own) (record { reply = reply.Told tell.Ok; own = record { table = without own.table n } })).own
+      by true = none
+      by false = λ m. ap shared_in (held-remove own.table.entries n m) ∙ from_cut (eqb m n) (held_at own.table m) (none m)
+
+left_unshared : (own : Own) (answer : Reply) → Unshared own → Unshared (left_own answer own)
+left_unshared own answer none = by (ends answer)
+  where
+    by : (b : Bool) → Unshared (cond b (record { table = new_table own.table.capacity }) own)
+    by true = unshared_new own.table.capacity
+    by false = none
+
+-- ---- lines that name what is a guest's own exactly where they are its own
+abbrev InputApart : (List ℕ → Bool) → Bool → Input → Type 0
+InputApart mine own (input.Named name) = mine name ≡ own
+InputApart mine own input.Shared = own ≡ false
+InputApart mine own other = Unit {0}
+
+abbrev OutputApart : (List ℕ → Bool) → Bool → Output → Type 0
+OutputApart mine own (output.Named name) = mine name ≡ own
+OutputApart mine own other = Unit {0}
+
+abbrev SettingApart : (List ℕ → Bool) → Bool → Setting → Type 0
+SettingApart mine own (setting.Stdout it) = OutputApart mine own it
+SettingApart mine own (setting.Stderr it) = OutputApart mine own it
+SettingApart mine own (setting.Capacity capacity) = Unit {0}
+
+abbrev LineApart : (List ℕ → Bool) → ℕ → Line → Type 0
+LineApart mine g (line.Guest k it) = InputApart mine (nat_eq k g) it
+LineApart mine g (line.Configure k it) = SettingApart mine (nat_eq k g) it
+LineApart mine g other = Unit {0}
+
+abbrev LinesApart : (List ℕ → Bool) → ℕ → List Line → Type 0
+LinesApart mine g [] = Unit {0}
+LinesApart mine g (step ∷ steps) = LineApart mine g step × LinesApart mine g steps
+
+-- ---- one guest beside the others
+module _ (rules : Rules) (mine : List ℕ → Bool) (g : ℕ) where
+  -- streams that are the same under the guest's names
+  record Same (one two : Streams) : Type 0 where
+    inputs : kept mine one.inputs ≡ kept mine two.inputs
+    outputs : kept mine one.outputs ≡ kept mine two.outputs
+
+  -- hosts that the guest cannot tell apart
+  record Alike (one two : Host) : Type 0 where
+    guest : guest_of one g ≡ guest_of two g
+    places : length one.guests ≡ length two.guests
+    streams : Same one.streams two.streams
+
+  -- a guest that names what is the guest's own exactly where it is that one, which then has nothing of the shared input
+  record Fits (own : Bool) (guest : Guest) : Type 0 where
+    reads : InputApart mine own guest.settings.input
+    writes : OutputApart mine own guest.settings.stdout
+    tells : OutputApart mine own guest.settings.stderr
+    unshared : own ≡ true → Unshared guest.own
+
+  abbrev FitsAt : ℕ → Option Guest → Type 0
+  FitsAt k None = Unit {0}
+  FitsAt k (Some guest) = Fits (nat_eq k g) guest
+
+  abbrev AllFit : Host → Type 0
+  AllFit host = (k : ℕ) → FitsAt k (guest_of host k)
+
+  same_refl : (streams : Streams) → Same streams streams
+  same_refl streams = record { inputs = refl; outputs = refl }
+
+  -- ---- a call of another guest
+  put_input_other : (from : Input) (it : InStream) (streams : Streams) → InputApart mine false from → Same (put_input from it streams) streams
+  put_input_other (input.Named n) it streams apart = record { inputs = kept_other mine n it streams.inputs apart; outputs = refl }
+  put_input_other other it streams apart = same_refl streams
+
+  put_output_other : (to : Output) (it : OutStream) (streams : Streams) → OutputApart mine false to → Same (put_output to it streams) streams
+  put_output_other (output.Named n) it streams apart = record { inputs = refl; outputs = kept_other mine n it streams.outputs apart }
+  put_output_other other it streams apart = same_refl streams
+
+  at_other : (it : EntryCall) (at : Owner) (o : Option Entry) (guest : Guest) (s : Shared) (streams : Streams) → Fits false guest → Same (answer_at rules it at o guest s streams).streams streams
+  at_other it at None guest s streams fits = same_refl streams
+  at_other it at (Some (entry.Shared e)) guest s streams fits = same_refl streams
+  at_other it at (Some (entry.Stream standard.Input e)) guest s streams fits = put_input_other guest.settings.input _ streams fits.reads
+  at_other it at (Some (entry.Stream standard.Output e)) guest s streams fits = put_output_other guest.settings.stdout _ streams fits.writes
+  at_other it at (Some (entry.Stream standard.Error e)) guest s streams fits = put_output_other guest.settings.stderr _ streams fits.tells
+
+  to_other : (c : Call) (k : ℕ) (guest : Guest) (s : Shared) (streams : Streams) → Fits false guest → Same (answer_to rules c k guest s streams).streams streams
+  to_other (call.On n it) k guest s streams fits = at_other it (record { guest = k; number = n }) (entry_at guest.own n) guest s streams fits
+  to_other other k guest s streams fits = same_refl streams
+
+  by_other : (b : Bool) (c : Call) (k : ℕ) (guest : Guest) (s : Shared) (streams : Streams) → Fits false guest → Same (answer_by b rules c k guest s streams).streams streams
+  by_other true c k guest s streams fits = same_refl streams
+  by_other false c k guest s streams fits = to_other c k guest s streams fits
+
+  in_other : (c : Call) (k : ℕ) (o : Option Guest) (s : Shared) (streams : Streams) → nat_eq k g ≡ false → FitsAt k o → Same (answer_in rules c k o s streams).streams streams
+  in_other c k None s streams apart fits = same_refl streams
+  in_other c k (Some guest) s streams apart fits = by_other guest.ended c k guest s streams (subst (λ own. Fits own guest) apart fits)
+
+  -- ---- a line that the guest does not see leaves what it can tell apart
+  elsewhere : (host : Host) (k : ℕ) (x : Option Guest) (s : Shared) (streams : Streams) → nat_eq k g ≡ false → Same streams host.streams → Alike (record { shared = s; guests = set host.guests k x; streams = streams }) host
+  elsewhere host k x s streams apart same = record { guest = set_apart host.guests k g x None apart; places = length-set host.guests k x; streams = same }
+
+  unseen : (step : Line) (host : Host) (given : Given) → AllFit host → is_seen mine g step ≡ false → Alike (host_by rules step host given) host
+  unseen (line.Input name it) host given fits e = record { guest = refl; places = refl; streams = record { inputs = kept_same mine host.streams.inputs name (new_input it) e; outputs = refl } }
+  unseen (line.Output name it) host given fits e = record { guest = refl; places = refl; streams = record { inputs = refl; outputs = kept_same mine host.streams.outputs name (new_output it) e } }
+  unseen (line.Guest k it) host given fits e = elsewhere host k (Some (new_guest it)) host.shared host.streams e (same_refl host.streams)
+  unseen (line.Configure k it) host given fits e = elsewhere host k (option_map (configured it) (guest_of host k)) host.shared host.streams e (same_refl host.streams)
+  unseen (line.Call k c) host given fits e =
+      let done = answer rules c k host in
+      elsewhere host k (Some done.guest) done.shared done.streams e (in_other c k (guest_of host k) host.shared host.streams e (fits k))
+  unseen (line.Worker it) host given fits e = record { guest = refl; places = refl; streams = same_refl host.streams }
+
+  -- ---- a call of the guest
+  record Tells (one two : Answered) : Type 0 where
+    reply : one.reply ≡ two.reply
+    guest : one.guest ≡ two.guest
+    streams : Same one.streams two.streams
+
+  input_same : (from : Input) (one two : Streams) → InputApart mine true from → Same one two → input_at from one ≡ input_at from two
+  input_same (input.Named n) one two apart same = ap (λ o. unwrap_or o in_stream.Closed) (sym (kept_found mine n one.inputs apart) ∙ ap (lookup (bytes_eq n)) same.inputs ∙ kept_found mine n two.inputs apart)
+  input_same other one two apart same = refl
+
+  output_same : (to : Output) (one two : Streams) → OutputApart mine true to → Same one two → output_at to one ≡ output_at to two
+  output_same (output.Named n) one two apart same = ap (λ o. unwrap_or o out_stream.Closed) (sym (kept_found mine n one.outputs apart) ∙ ap (lookup (bytes_eq n)) same.outputs ∙ kept_found mine n two.outputs apart)
+  output_same output.Closed one two apart same = refl
+  output_same other one two apart same = refl
+
+  put_input_same : (from : Input) (a b : InStream) (one two : Streams) → InputApart mine true from → a ≡ b → Same one two → Same (put_input from a one) (put_input from b two)
+  put_input_same (input.Named n) a b one two apart e same = record { inputs = kept_own mine n a one.inputs apart ∙ (λ i. put_back n (e i) (same.inputs i)) ∙ sym (kept_own mine n b two.inputs apart); outputs = same.outputs }
+  put_input_same other a b one two apart e same = same
+
+  put_output_same : (to : Output) (a b : OutStream) (one two : Streams) → OutputApart mine true to → a ≡ b → Same one two → Same (put_output to a one) (put_output to b two)
+  put_output_same (output.Named n) a b one two apart e same = record { inputs = same.inputs; outputs = kept_own mine n a one.outputs apart ∙ (λ i. put_back n (e i) (same.outputs i)) ∙ sym (kept_own mine n b two.outputs apart) }
+  put_output_same other a b one two apart e same = same
+
+  on_output : (it : EntryCall) (at : Owner) (which : Standard) (e : StreamEntry) (to : Output) (guest : Guest) (s s' : Shared) (one two : Streams) → OutputApart mine true to → Same one two → Tells (host.on_output (rules.sent it which at e (output_at to one)) to guest s one) (host.on_output (rules.sent it which at e (output_at to two)) to guest s' two)
+  on_output it at which e to guest s s' one two named same =
+      let stream = output_same to one two named same in
+      record {
+        reply = ap (λ stream. (act (apart (rules.sent it which at e stream).deed) guest.own).reply) stream;
+        guest = ap (λ stream. let done : Done = act (apart (rules.sent it which at e stream).deed) guest.own in left_guest guest done.reply done.own) stream;
+        streams = put_output_same to (rules.sent it which at e (output_at to one)).left (rules.sent it which at e (output_at to two)).left one two named (ap (λ stream. (rules.sent it which at e stream).left) stream) same;
+      }
+
+  at_told : (it : EntryCall) (at : Owner) (o : Option (Held Entry)) (guest : Guest) (s s' : Shared) (one two : Streams) → shared_in o ≡ false → Fits true guest → Same one two → Tells (answer_at rules it at (entry_in o) guest s one) (answer_at rules it at (entry_in o) guest s' two)
+  unfolding shared_in
+  at_told it at None guest s s' one two none fits same = record { reply = refl; guest = refl; streams = same }
+  at_told it at (Some held) guest s s' one two none fits same = by held.entry none
+    where
+      by : (e : Entry) → is_shared e ≡ false → Tells (answer_at rules it at (Some e) guest s one) (answer_at rules it at (Some e) guest s' two)
+      by (entry.Shared e) none = absurd (true≢false none)
+      by (entry.Stream standard.Input e) none =
+          let stream = input_same guest.settings.input one two fits.reads same in
+          record {
+            reply = ap (λ stream. (act (apart (rules.called it at e stream).deed) guest.own).reply) stream;
+            guest = ap (λ stream. let done : Done = act (apart (rules.called it at e stream).deed) guest.own in left_guest guest done.reply done.own) stream;
+            streams = put_input_same guest.settings.input (rules.called it at e (input_at guest.settings.input one)).left (rules.called it at e (input_at guest.settings.input two)).left one two fits.reads (ap (λ stream. (rules.called it at e stream).left) stream) same;
+          }
+      by (entry.Stream standard.Output e) none = on_output it at standard.Output e guest.settings.stdout guest s s' one two fits.writes same
+      by (entry.Stream standard.Error e) none = on_output it at standard.Error e guest.settings.stderr guest s s' one two fits.tells same
+
+  to_told : (c : Call) (k : ℕ) (guest : Guest) (s s' : Shared) (one two : Streams) → Fits true guest → Same one two → Tells (answer_to rules c k guest s one) (answer_to rules c k guest s' two)
+  to_told (call.On n it) k guest s s' one two fits same = at_told it (record { guest = k; number = n }) (held_at guest.own.table n) guest s s' one two (fits.unshared refl n) fits same
+  to_told (call.Open it how) k guest s s' one two fits same = record { reply = refl; guest = refl; streams = same }
+  to_told (call.Drop n) k guest s s' one two fits same = record { reply = refl; guest = refl; streams = same }
+  to_told (call.Own it) k guest s s' one two fits same = record { reply = refl; guest = refl; streams = same }
+
+  by_told : (b : Bool) (c : Call) (k : ℕ) (guest : Guest) (s s' : Shared) (one two : Streams) → Fits true guest → Same one two → Tells (answer_by b rules c k guest s one) (answer_by b rules c k guest s' two)
+  by_told true c k guest s s' one two fits same = record { reply = refl; guest = refl; streams = same }
+  by_told false c k guest s s' one two fits same = to_told c k guest s s' one two fits same
+
+  in_told : (c : Call) (k : ℕ) (o : Option Guest) (s s' : Shared) (one two : Streams) → nat_eq k g ≡ true → FitsAt k o → Same one two → Tells (answer_in rules c k o s one) (answer_in rules c k o s' two)
+  in_told c k None s s' one two own fits same = record { reply = refl; guest = refl; streams = same }
+  in_told c k (Some guest) s s' one two own fits same = by_told guest.ended c k guest s s' one two (subst (λ own. Fits own guest) own fits) same
+
+  -- ---- a line that the guest sees
+  record Seen (one two : Host) (a b : Reply) : Type 0 where
+    reply : a ≡ b
+    alike : Alike one two
+
+  puts : (one two : Host) (k : ℕ) (x y : Option Guest) (s s' : Shared) (streams streams' : Streams) → x ≡ y → Same streams streams' → Alike one two → Alike (record { shared = s; guests = set one.guests k x; streams = streams }) (record { shared = s'; guests = set two.guests k y; streams = streams' })
+  puts one two k x y s s' streams streams' e same alike = record {
+    guest = set_alike one.guests two.guests k g x None alike.places alike.guest ∙ ap (λ x. get_or (set two.guests k x) g None) e;
+    places = length-set one.guests k x ∙ alike.places ∙ sym (length-set two.guests k y);
+    streams = same;
+  }
+
+  guests_same : (one two : Host) (k : ℕ) → nat_eq k g ≡ true → Alike one two → guest_of one k ≡ guest_of two k
+  guests_same one two k own alike = let same : k ≡ g = eqb-true k g own in subst (λ (k : ℕ). guest_of one k ≡ guest_of two k) (sym same) alike.guest
+
+  seen : (step : Line) (one two : Host) (given given' : Given) → AllFit one → Alike one two → is_seen mine g step ≡ true → Seen (host_by rules step one given) (host_by rules step two given') (reply_by rules step one given) (reply_by rules step two given')
+  seen (line.Input name it) one two given given' fits alike e = record { reply = refl; alike = record { guest = alike.guest; places = alike.places; streams = record { inputs = kept_more mine one.streams.inputs name (new_input it) e ∙ ap (λ named. named ++ (name, new_input it) ∷ []) alike.streams.inputs ∙ sym (kept_more mine two.streams.inputs name (new_input it) e); outputs = alike.streams.outputs } } }
+  seen (line.Output name it) one two given given' fits alike e = record { reply = refl; alike = record { guest = alike.guest; places = alike.places; streams = record { inputs = alike.streams.inputs; outputs = kept_more mine one.streams.outputs name (new_output it) e ∙ ap (λ named. named ++ (name, new_output it) ∷ []) alike.streams.outputs ∙ sym (kept_more mine two.streams.outputs name (new_output it) e) } } }
+  seen (line.Guest k it) one two given given' fits alike e = record { reply = refl; alike = puts one two k (Some (new_guest it)) (Some (new_guest it)) one.shared two.shared one.streams two.streams refl alike.streams alike }
+  seen (line.Configure k it) one two given given' fits alike e = record { reply = refl; alike = puts one two k (option_map (configured it) (guest_of one k)) (option_map (configured it) (guest_of two k)) one.shared two.shared one.streams two.streams (ap (option_map (configured it)) (guests_same one two k e alike)) alike.streams alike }
+  seen (line.Call k c) one two given given' fits alike e =
+      let done = answer rules c k one in
+      let other : Answered = answer_in rules c k (guest_of one k) two.shared two.streams in
+      let there = answer rules c k two in
+      let told : Tells done other = in_told c k (guest_of one k) one.shared two.shared one.streams two.streams e (fits k) alike.streams in
+      let same : other ≡ there = ap (λ o. answer_in rules c k o two.shared two.streams) (guests_same one two k e alike) in
+      record {
+        reply = told.reply ∙ ap (λ (it : Answered). it.reply) same;
+        alike = puts one two k (Some done.guest) (Some there.guest) done.shared there.shared done.streams there.streams (ap Some (told.guest ∙ ap (λ (it : Answered). it.guest) same))
+          (record { inputs = told.streams.inputs ∙ ap (λ (it : Answered). kept mine it.streams.inputs) same; outputs = told.streams.outputs ∙ ap (λ (it : Answered). kept mine it.streams.outputs) same }) alike;
+      }
+  seen (line.Worker it) one two given given' fits alike e = absurd (true≢false (sym e))
+
+  -- ---- each step leaves guests that fit
+  configured_fits : (k : ℕ) (it : Setting) (o : Option Guest) → SettingApart mine (nat_eq k g) it → FitsAt k o → FitsAt k (option_map (configured it) o)
+  configured_fits k it None apart fits = tt
+  configured_fits k (setting.Stdout to) (Some guest) apart fits = record { reads = fits.reads; writes = apart; tells = fits.tells; unshared = fits.unshared }
+  configured_fits k (setting.Stderr to) (Some guest) apart fits = record { reads = fits.reads; writes = fits.writes; tells = apart; unshared = fits.unshared }
+  configured_fits k (setting.Capacity capacity) (Some guest) apart fits = record { reads = fits.reads; writes = fits.writes; tells = fits.tells; unshared = λ own. unshared_new capacity }
+
+  left_fits : (own : Bool) (guest : Guest) (done : Done) → Fits own guest → (own ≡ true → Unshared done.own) → Fits own (left_guest guest done.reply done.own)
+  left_fits own guest done fits none = record { reads = fits.reads; writes = fits.writes; tells = fits.tells; unshared = λ is. left_unshared done.own done.reply (none is) }
+
+  at_fits : (own : Bool) (it : EntryCall) (at : Owner) (o : Option (Held Entry)) (guest : Guest) (s : Shared) (streams : Streams) → (own ≡ true → shared_in o ≡ false) → Fits own guest → Fits own (answer_at rules it at (entry_in o) guest s streams).guest
+  unfolding shared_in
+  at_fits own it at None guest s streams none fits = left_fits own guest (trapped ResourceNotPresent guest.own) fits fits.unshared
+  at_fits own it at (Some held) guest s streams none fits = by held.entry none
+    where
+      by : (e : Entry) → (own ≡ true → is_shared e ≡ false) → Fits own (answer_at rules it at (Some e) guest s streams).guest
+      by (entry.Shared e) none = left_fits own guest (act (rules.asked it at e s).deed guest.own) fits (λ is. absurd (true≢false (none is)))
+      by (entry.Stream standard.Input e) none = left_fits own guest (act (apart (rules.called it at e (input_at guest.settings.input streams)).deed) guest.own) fits (λ is. apart_unshared guest.own (fits.unshared is) (rules.called it at e (input_at guest.settings.input streams)).deed)
+      by (entry.Stream standard.Output e) none = left_fits own guest (act (apart (rules.sent it standard.Output at e (output_at guest.settings.stdout streams)).deed) guest.own) fits (λ is. apart_unshared guest.own (fits.unshared is) (rules.sent it standard.Output at e (output_at guest.settings.stdout streams)).deed)
+      by (entry.Stream standard.Error e) none = left_fits own guest (act (apart (rules.sent it standard.Error at e (output_at guest.settings.stderr streams)).deed) guest.own) fits (λ is. apart_unshared guest.own (fits.unshared is) (rules.sent it standard.Error at e (output_at guest.settings.stderr streams)).deed)
+
+  opened_unshared : (from : Input) (it : Standard) (how : Access) → InputApart mine true from → is_shared (opened from it how) ≡ false
+  opened_unshared input.Shared standard.Input how apart = absurd (true≢false apart)
+  opened_unshared input.Shared standard.Output how apart = absurd (true≢false apart)
+  opened_unshared input.Shared standard.Error how apart = absurd (true≢false apart)
+  opened_unshared from it how apart = refl
+
+  to_fits : (own : Bool) (c : Call) (k : ℕ) (guest : Guest) (s : Shared) (streams : Streams) → Fits own guest → Fits own (answer_to rules c k guest s streams).guest
+  to_fits own (call.Open it how) k guest s streams fits = left_fits own guest (act (Make (opened guest.settings.input it how) None) guest.own) fits (λ is. make_unshared guest.own (fits.unshared is) (opened guest.settings.input it how) None (opened_unshared guest.settings.input it how (subst (λ own. InputApart mine own guest.settings.input) is fits.reads)))
+  to_fits own (call.On n it) k guest s streams fits = at_fits own it (record { guest = k; number = n }) (held_at guest.own.table n) guest s streams (λ is. fits.unshared is n) fits
+  to_fits own (call.Drop n) k guest s streams fits = left_fits own guest (dropped n guest.own) fits (λ is. dropped_unshared guest.own (fits.unshared is) n (entry_at guest.own n))
+  to_fits own (call.Own it) k guest s streams fits = left_fits own guest (act (apart (rules.owned it guest.settings guest.own)) guest.own) fits (λ is. apart_unshared guest.own (fits.unshared is) (rules.owned it guest.settings guest.own))
+
+  by_fits : (own b : Bool) (c : Call) (k : ℕ) (guest : Guest) (s : Shared) (streams : Streams) → Fits own guest → Fits own (answer_by b rules c k guest s streams).guest
+  by_fits own true c k guest s streams fits = record { reads = fits.reads; writes = fits.writes; tells = fits.tells; unshared = fits.unshared }
+  by_fits own false c k guest s streams fits = to_fits own c k guest s streams fits
+
+  in_fits : (c : Call) (k : ℕ) (o : Option Guest) (s : Shared) (streams : Streams) → FitsAt k o → Fits (nat_eq k g) (answer_in rules c k o s streams).guest
+  in_fits c k None s streams fits = record { reads = tt; writes = tt; tells = tt; unshared = λ own. unshared_new 1024 }
+  in_fits c k (Some guest) s streams fits = by_fits (nat_eq k g) guest.ended c k guest s streams fits
+
+  all_fit : (step : Line) (host : Host) (given : Given) → LineApart mine g step → AllFit host → AllFit (host_by rules step host given)
+  all_fit (line.Guest k it) host given apart fits = set_holds FitsAt host.guests k (Some (new_guest it)) fits (record { reads = apart; writes = tt; tells = tt; unshared = λ own. unshared_new 1024 })
+  all_fit (line.Configure k it) host given apart fits = set_holds FitsAt host.guests k (option_map (configured it) (guest_of host k)) fits (configured_fits k it (guest_of host k) apart (fits k))
+  all_fit (line.Call k c) host given apart fits = set_holds FitsAt host.guests k (Some (answer rules c k host).guest) fits (in_fits c k (guest_of host k) host.shared host.streams (fits k))
+  all_fit other host given apart fits = fits
+
+  trans : (one two three : Host) → Alike one two → Alike two three → Alike one three
+  trans one two three a b = record { guest = a.guest ∙ b.guest; places = a.places ∙ b.places; streams = record { inputs = a.streams.inputs ∙ b.streams.inputs; outputs = a.streams.outputs ∙ b.streams.outputs } }
+
+-- ---- all steps
+none_hold : (P : ℕ → Option Guest → Type 0) (count : ℕ) → ((m : ℕ) → P m None) → (m : ℕ) → P m (get_or (replicate count None) m None)
+none_hold P zero all m = all m
+none_hold P (suc count) all zero = all zero
+none_hold P (suc count) all (suc m) = none_hold (λ m. P (suc m)) count (λ m. all (suc m)) m
+
+module _ (mine : List ℕ → Bool) (g : ℕ) where
+  -- the replies to what is seen of the steps, and what they leave, are those of the view alone
+  record Follows (steps own : List Line) (one two : Host) (told other : Told) : Type 0 where
+    replies_are : replies_to (is_seen mine g) steps (replies steps one told) ≡ replies own two other
+    alike : Alike the_rules mine g (host_end steps one told) (host_end own two other)
+
+  follows : (steps : List Line) (one two : Host) (told other : Told) → LinesApart mine g steps → AllFit the_rules mine g one → Alike the_rules mine g one two → Follows steps (filter (is_seen mine g) steps) one two told other
+  follows [] one two told other apart fits alike = record { replies_are = refl; alike = alike }
+  follows (step ∷ steps) one two told other apart fits alike =
+      by (λ one' two' told' other' fits' alike'. follows steps one' two' told' other' apart.1 fits' alike') (is_seen mine g step) refl
+    where
+      by : ((one' two' : Host) (told' other' : Told) → AllFit the_rules mine g one' → Alike the_rules mine g one' two' → Follows steps (filter (is_seen mine g) steps) one' two' told' other') → (b : Bool) → is_seen mine g step ≡ b → Follows (step ∷ steps) (cond b (step ∷ filter (is_seen mine g) steps) (filter (is_seen mine g) steps)) one two told other
+      by rest true e =
+          let now = seen the_rules mine g step one two (given_for (size_read step one) told) (given_for (size_read step two) other) fits alike e in
+          let then = rest (step_host step one told) (step_host step two other) (step_told step one told) (step_told step two other) (all_fit the_rules mine g step one (given_for (size_read step one) told) apart.0 fits) now.alike in
+          let more = replies_to (is_seen mine g) steps (replies steps (step_host step one told) (step_told step one told)) in
+          record {
+            replies_are = ap (λ b. kept_if b (step_reply step one told) more) e ∙ (λ i. now.reply i ∷ then.replies_are i);
+            alike = then.alike;
+          }
+      by rest false e =
+          let still = unseen the_rules mine g step one (given_for (size_read step one) told) fits e in
+          let then = rest (step_host step one told) two (step_told step one told) other (all_fit the_rules mine g step one (given_for (size_read step one) told) apart.0 fits) (trans the_rules mine g (step_host step one told) one two still alike) in
+          let more = replies_to (is_seen mine g) steps (replies steps (step_host step one told) (step_told step one told)) in
+          record {
+            replies_are = ap (λ b. kept_if b (step_reply step one told) more) e ∙ then.replies_are;
+            alike = then.alike;
+          }
+
+  from_new : (steps : List Line) (told other : Told) → LinesApart mine g steps → Follows steps (filter (is_seen mine g) steps) new_host new_host told other
+  from_new steps told other apart = follows steps new_host new_host told other apart (none_hold (FitsAt the_rules mine g) 64 (λ m. tt)) (record { guest = refl; places = refl; streams = record { inputs = refl; outputs = refl } })
+
+-- ---- the names that a guest's lines name
+or_left : (a b : Bool) → a ≡ true → (a || b) ≡ true
+or_left true b e = refl
+or_left false b e = absurd (true≢false (sym e))
+
+or_right : (a b : Bool) → b ≡ true → (a || b) ≡ true
+or_right true b e = refl
+or_right false b e = e
+
+left_false : (a b : Bool) → (a || b) ≡ false → a ≡ false
+left_false true b e = absurd (true≢false e)
+left_false false b e = refl
+
+right_false : (a b : Bool) → (a || b) ≡ false → b ≡ false
+right_false true b e = absurd (true≢false e)
+right_false false b e = e
+
+same_bytes : (n : List ℕ) → bytes_eq n n ≡ true
+same_bytes n = (bytes_eq-Decides n n).1 refl
+
+module _ (mine : List ℕ → Bool) (g : ℕ) where
+  output_named : (b : Bool) (it : Output) → ((name : List ℕ) → (b && output_names it name) ≡ true → mine name ≡ true) → ((name : List ℕ) → (not b && output_names it name) ≡ true → mine name ≡ false) → OutputApart mine b it
+  output_named true (output.Named n) own other = own n (same_bytes n)
+  output_named false (output.Named n) own other = other n (same_bytes n)
+  output_named b output.Empty own other = tt
+  output_named b output.Sink own other = tt
+  output_named b output.Closed own other = tt
+
+  input_named : (b : Bool) (it : Input) → ((name : List ℕ) → (b && input_names it name) ≡ true → mine name ≡ true) → ((name : List ℕ) → (not b && input_names it name) ≡ true → mine name ≡ false) → (b && run.is_shared it) ≡ false → InputApart mine b it
+  input_named true (input.Named n) own other unshared = own n (same_bytes n)
+  input_named false (input.Named n) own other unshared = other n (same_bytes n)
+  input_named true input.Shared own other unshared = unshared
+  input_named false input.Shared own other unshared = refl
+  input_named b input.Empty own other unshared = tt
+  input_named b input.Closed own other unshared = tt
+
+  setting_named : (b : Bool) (it : Setting) → ((name : List ℕ) → (b && setting_names it name) ≡ true → mine name ≡ true) → ((name : List ℕ) → (not b && setting_names it name) ≡ true → mine name ≡ false) → SettingApart mine b it
+  setting_named b (setting.Stdout it) own other = output_named b it own other
+  setting_named b (setting.Stderr it) own other = output_named b it own other
+  setting_named b (setting.Capacity capacity) own other = tt
+
+  line_named : (step : Line) → ((name : List ℕ) → line_names (is_guest g) step name ≡ true → mine name ≡ true) → ((name : List ℕ) → line_names (is_other g) step name ≡ true → mine name ≡ false) → shares g step ≡ false → LineApart mine g step
+  line_named (line.Guest k it) own other unshared = input_named (nat_eq k g) it own other unshared
+  line_named (line.Configure k it) own other unshared = setting_named (nat_eq k g) it own other
+  line_named (line.Input name it) own other unshared = tt
+  line_named (line.Output name it) own other unshared = tt
+  line_named (line.Call k it) own other unshared = tt
+  line_named (line.Worker it) own other unshared = tt
+
+  lines_named : (steps : List Line) → ((name : List ℕ) → names_by (is_guest g) steps name ≡ true → mine name ≡ true) → ((name : List ℕ) → names_by (is_other g) steps name ≡ true → mine name ≡ false) → list_any (shares g) steps ≡ false → LinesApart mine g steps
+  lines_named [] own other unshared = tt
+  lines_named (step ∷ steps) own other unshared =
+      (line_named step (λ name e. own name (or_left (line_names (is_guest g) step name) (names_by (is_guest g) steps name) e)) (λ name e. other name (or_left (line_names (is_other g) step name) (names_by (is_other g) steps name) e)) (left_false (shares g step) (list_any (shares g) steps) unshared),
+      lines_named steps (λ name e. own name (or_right (line_names (is_guest g) step name) (names_by (is_guest g) steps name) e)) (λ name e. other name (or_right (line_names (is_other g) step name) (names_by (is_other g) steps name) e)) (right_false (shares g step) (list_any (shares g) steps) unshared))
+
+  -- a line that the guest does not see names nothing of its own
+  unseen_names : (step : Line) (name : List ℕ) → is_seen mine g step ≡ false → line_names (is_guest g) step name ≡ false
+  unseen_names (line.Guest k it) name e = ap (λ b. b && input_names it name) e
+  unseen_names (line.Configure k it) name e = ap (λ b. b && setting_names it name) e
+  unseen_names (line.Input n it) name e = refl
+  unseen_names (line.Output n it) name e = refl
+  unseen_names (line.Call k it) name e = refl
+  unseen_names (line.Worker it) name e = refl
+
+  names_seen : (steps : List Line) (name : List ℕ) → names_by (is_guest g) (filter (is_seen mine g) steps) name ≡ names_by (is_guest g) steps name
+  names_seen [] name = refl
+  names_seen (step ∷ steps) name = by (is_seen mine g step) refl (names_seen steps name)
+    where
+      by : (b : Bool) → is_seen mine g step ≡ b → names_by (is_guest g) (filter (is_seen mine g) steps) name ≡ names_by (is_guest g) steps name → names_by (is_guest g) (cond b (step ∷ filter (is_seen mine g) steps) (filter (is_seen mine g) steps)) name ≡ (line_names (is_guest g) step name || names_by (is_guest g) steps name)
+      by true e rest = ap (λ more. line_names (is_guest g) step name || more) rest
+      by false e rest = rest ∙ sym (ap (λ b. b || names_by (is_guest g) steps name) (unseen_names step name e))
+
+pub alone : (g : ℕ) (steps : List Line) (told : Told) → IsApart g steps → IsAlone g steps told
+alone g steps told apart =
+    let mine : List ℕ → Bool = names_by (is_guest g) steps in
+    let lines : LinesApart mine g steps = lines_named mine g steps (λ name e. e) (λ name e. not_own name e (mine name) refl) apart.unshared in
+    let names : names_by (is_guest g) (view g steps) ≡ mine = λ i name. names_seen mine g steps name i in
+    record {
+      replies = λ other. (from_new mine g steps told other lines).replies_are;
+      outputs = λ other.
+          ap (map (λ (row : List ℕ × OutStream). (row.0, taken_of row.1))) ((from_new mine g steps told other lines).alike.streams.outputs)
+          ∙ (λ i. map (λ (row : List ℕ × OutStream). (row.0, taken_of row.1)) (filter (λ row. sym names i row.0) (host_end (view g steps) new_host other).streams.outputs));
+    }
+  where
+    not_own : (name : List ℕ) → names_by (is_other g) steps name ≡ true → (b : Bool) → names_by (is_guest g) steps name ≡ b → names_by (is_guest g) steps name ≡ false
+    not_own name e true own = absurd (true≢false (sym e ∙ apart.unnamed name own))
+    not_own name e false own = own
+
+pub isolated : (g : ℕ) (one two : List Line) (told other : Told) → IsApart g one → IsApart g two → view g one ≡ view g two → SeesSame g one two told other
+isolated g one two told other apart_one apart_two same =
+    let a = alone g one told apart_one in
+    let b = alone g two other apart_two in
+    record {
+      replies = a.replies told ∙ ap (λ (own : List Line). replies own new_host told) same ∙ sym (b.replies told);
+      outputs = a.outputs told ∙ ap (λ (own : List Line). outputs_seen g own told) same ∙ sym (b.outputs told);
+    }

@@ -1,0 +1,105 @@
+-- An output keeps what it took: a write that is done adds all its bytes, any other a first part, and no other call adds.
+use Rattle.std.proofs.Common.{◌≡◌, ◌≤◌, ℕ, Bool, true, false, cond, List, [], ◌∷◌, ◌++◌, length, take, Some, Result, Ok, Err, refl, ap, sym, subst, arith, append-nil, true≢false}
+use Rattle.std.specs.Prelude.{nat_lt, if◌then◌else◌, min}
+use Rattle.std.proofs.lemmas.Grind.{common_steps}
+use Rattle.wasi_base.specs.declared.io_kind.IoKind.{IoKind}
+use Rattle.wasi_base.specs.declared.io_kind.IoKind.TheVariants.{BrokenPipe}
+use Rattle.wasi_base.specs.declared.sink.WriteStop.{WriteStop}
+use Rattle.wasi_base.specs.StreamError.{stream_error_of}
+use Rattle.wasi_base.specs.declared.stream_error.StreamError.TheVariants as failure
+use Rattle.wasi_base.specs.declared.trap_text.TrapText.TheVariants.{WriteBeyondCapacity, WriteExceededBudget}
+use Rattle.wasi_streams.specs.Outputs.{Outlet, sent as went, all_written, after_all_written, part_written, taken_with, write_answer, poll_all_answer, poll_part_answer}
+use Rattle.wasi_streams.specs.MemoryPipes.{OutPipe, with_bytes}
+use Rattle.wasi_script.specs.declared.lines.Standard.{Standard}
+use Rattle.wasi_script.specs.declared.lines.EntryCall.{EntryCall}
+use Rattle.wasi_script.specs.declared.lines.EntryCall.TheVariants as on
+use Rattle.wasi_reply.specs.declared.reply.Told.{Told}
+use Rattle.wasi_reply.specs.declared.reply.Told.TheVariants as told
+use Rattle.wasi_host.specs.declared.entry.StreamEntry.{StreamEntry}
+use Rattle.wasi_host.specs.declared.entry.StreamEntry.TheVariants as at
+use Rattle.wasi_host.specs.declared.stream.OutStream.{OutStream}
+use Rattle.wasi_host.specs.declared.stream.OutStream.TheVariants as stream
+use Rattle.wasi_host.specs.OutStreams.{taken_of, after_output_write, after_output_flush, after_output_poll_write, output_write, output_poll_write}
+use Rattle.wasi_host.specs.Deeds.{Own, act, apart}
+use Rattle.wasi_host.specs.Calls.{Owner, sent, result_told, poll_told, is_done}
+use Rattle.wasi_host.specs.Laws.{Took, TookBy, is_declared, Keeps}
+
+-- ---- a pipe
+take_within : (room : ℕ) (bytes : List ℕ) → take room bytes ≡ take (min (length bytes) room) bytes
+take_within room bytes = grind (arith, common_steps)
+
+pipe_write : (pipe : OutPipe) (bytes : List ℕ) (past : Bool) → (is_declared (stream.Pipe (if past then pipe else with_bytes pipe bytes)) ≡ true) × Took (result_told is_done (if past then Err (failure.Trap WriteBeyondCapacity) else Ok tt)) bytes pipe.contents (taken_of (stream.Pipe (if past then pipe else with_bytes pipe bytes)))
+pipe_write pipe bytes true = (refl, refl)
+pipe_write pipe bytes false = (refl, refl)
+
+-- ---- a chain of writes
+take_whole : (bytes : List ℕ) → take (length bytes) bytes ≡ bytes
+take_whole bytes = grind (arith, common_steps)
+
+error_took : (kind : IoKind) (count : ℕ) (bytes before : List ℕ) → Took (result_told is_done (Err (stream_error_of kind))) bytes before (before ++ take count bytes)
+error_took BrokenPipe count bytes before = (count, refl)
+error_took kind count bytes before = (count, refl)
+
+file_took : (stop : Result (Unit {0}) WriteStop) (bytes before : List ℕ) → Took (result_told is_done (write_answer failure.LastOperationFailed stop)) bytes before (before ++ went bytes stop)
+file_took (Ok done) bytes before = ap (λ part. before ++ part) (take_whole bytes)
+file_took (Err stop) bytes before = (stop.taken, refl)
+
+file_poll_took : (stop : Result (Unit {0}) WriteStop) (bytes before : List ℕ) → Took (poll_told told.Count (poll_all_answer (length bytes) stop)) bytes before (before ++ went bytes stop)
+file_poll_took (Ok done) bytes before = refl
+file_poll_took (Err stop) bytes before = (stop.taken, refl)
+
+stdio_took : (stop : Result (Unit {0}) WriteStop) (bytes before : List ℕ) → Took (result_told is_done (write_answer stream_error_of stop)) bytes before (before ++ went bytes stop)
+stdio_took (Ok done) bytes before = ap (λ part. before ++ part) (take_whole bytes)
+stdio_took (Err stop) bytes before = error_took stop.kind stop.taken bytes before
+
+part_took : (part : Result ℕ IoKind) (piece before : List ℕ) → Took (poll_told told.Count (poll_part_answer part)) piece before (taken_with before piece part)
+part_took (Ok count) piece before = refl
+part_took (Err kind) piece before = (0, sym (append-nil before))
+
+-- ---- a write, a polled write and a flush of a declared output
+record KeptBy (bytes : List ℕ) (s left : OutStream) (answer : Told) : Type 0 where
+  declared : is_declared left ≡ true
+  took : Took answer bytes (taken_of s) (taken_of left)
+
+stdio_write : (out : Outlet) (bytes : List ℕ) (past : Bool) → KeptBy bytes (stream.Stdio out) (stream.Stdio (if past then out else after_all_written out bytes)) (result_told is_done (if past then Err (failure.Trap WriteExceededBudget) else write_answer stream_error_of (all_written out bytes)))
+stdio_write out bytes true = record { declared = refl; took = refl }
+stdio_write out bytes false = record { declared = refl; took = stdio_took (all_written out bytes) bytes out.taken }
+
+write_keeps : (bytes : List ℕ) (s : OutStream) → is_declared s ≡ true → KeptBy bytes s (after_output_write s bytes) (result_told is_done (output_write s bytes))
+write_keeps bytes (stream.Pipe pipe) is = let kept = pipe_write pipe bytes (nat_lt pipe.room (length bytes)) in record { declared = kept.0; took = kept.1 }
+write_keeps bytes (stream.File out) is = record { declared = refl; took = file_took (all_written out bytes) bytes out.taken }
+write_keeps bytes (stream.Stdio out) is = stdio_write out bytes (nat_lt 65536 (length bytes))
+write_keeps bytes stream.Closed is = absurd (true≢false (sym is))
+write_keeps bytes stream.Sink is = absurd (true≢false (sym is))
+
+stdio_poll_write : (piece : List ℕ) (out : Outlet) → KeptBy piece (stream.Stdio out) (after_output_poll_write (stream.Stdio out) piece) (poll_told told.Count (output_poll_write (stream.Stdio out) piece))
+stdio_poll_write [] out = record { declared = refl; took = sym (append-nil out.taken) }
+stdio_poll_write (b ∷ piece) out = record { declared = refl; took = part_took (part_written out (b ∷ piece)) (b ∷ piece) out.taken }
+
+poll_write_keeps : (piece : List ℕ) (s : OutStream) → is_declared s ≡ true → KeptBy piece s (after_output_poll_write s piece) (poll_told told.Count (output_poll_write s piece))
+poll_write_keeps piece (stream.Pipe pipe) is = record { declared = refl; took = ap (λ part. pipe.contents ++ part) (take_within pipe.room piece) }
+poll_write_keeps piece (stream.File out) is = record { declared = refl; took = file_poll_took (all_written out piece) piece out.taken }
+poll_write_keeps piece (stream.Stdio out) is = stdio_poll_write piece out
+poll_write_keeps piece stream.Closed is = absurd (true≢false (sym is))
+poll_write_keeps piece stream.Sink is = absurd (true≢false (sym is))
+
+flush_declared : (s : OutStream) → is_declared s ≡ true → is_declared (after_output_flush s) ≡ true
+flush_declared (stream.File out) is = refl
+flush_declared (stream.Stdio out) is = refl
+flush_declared other is = is
+
+flush_took : (s : OutStream) → taken_of (after_output_flush s) ≡ taken_of s
+flush_took (stream.File out) = refl
+flush_took (stream.Stdio out) = refl
+flush_took other = refl
+
+pub outputs_keep : (it : EntryCall) (to : Standard) (owner : Owner) (entry : StreamEntry) (s : OutStream) (own : Own) → is_declared s ≡ true → let done = sent it to owner entry s in Keeps it entry s done.left (act (apart done.deed) own).reply
+outputs_keep (on.Write bytes) to owner at.Plain s own is = let kept = write_keeps bytes s is in record { declared = kept.declared; took = (result_told is_done (output_write s bytes), refl, kept.took) }
+outputs_keep (on.PollWrite bytes) to owner at.Polled s own is = let kept = poll_write_keeps bytes s is in record { declared = kept.declared; took = (poll_told told.Count (output_poll_write s bytes), refl, kept.took) }
+outputs_keep on.Flush to owner at.Plain s own is = record { declared = flush_declared s is; took = flush_took s }
+outputs_keep on.PollFlush to owner at.Polled s own is = record { declared = flush_declared s is; took = flush_took s }
+outputs_keep on.CheckWrite to owner at.Plain s own is = record { declared = is; took = refl }
+outputs_keep on.Subscribe to owner at.Plain s own is = record { declared = is; took = refl }
+outputs_keep on.Ready to owner at.Pollable s own is = record { declared = is; took = refl }
+outputs_keep on.Block to owner at.Pollable s own is = record { declared = is; took = refl }
+outputs_keep other to owner entry s own is = record { declared = is; took = refl }

@@ -1,0 +1,125 @@
+-- A call stays in its guest's reach: it changes nothing of other guests, of streams but the one that it is on, and of the
+-- shared input unless it is on that. What is taken out of the streams is put back. No rule is opened.
+use Rattle.std.proofs.Common.{◌≡◌, ℕ, Bool, true, false, cond, List, [], ◌∷◌, get_or, Option, Some, None, refl, ap, sym, ◌∙◌, true≢false}
+use Rattle.std.specs.Prelude.{is_some, unwrap_or}
+use Rattle.std.specs.Map.{lookup, set_value}
+use Rattle.std.specs.Option.{option_map}
+use Rattle.std.specs.Str.{bytes_eq}
+use Rattle.std.proofs.lemmas.Bool.{ne_eqb, eq-eqb}
+use Rattle.std.proofs.lemmas.Slice.Eq.{bytes_eq-Decides}
+use Rattle.wasi_stdin.specs.Shared.{Shared}
+use Rattle.wasi_script.specs.declared.lines.Input.{Input}
+use Rattle.wasi_script.specs.declared.lines.Input.TheVariants as input
+use Rattle.wasi_script.specs.declared.lines.Output.{Output}
+use Rattle.wasi_script.specs.declared.lines.Output.TheVariants as output
+use Rattle.wasi_script.specs.declared.lines.Standard.TheVariants as standard
+use Rattle.wasi_script.specs.declared.lines.EntryCall.{EntryCall}
+use Rattle.wasi_script.specs.declared.lines.Call.{Call}
+use Rattle.wasi_script.specs.declared.lines.Call.TheVariants as call
+use Rattle.wasi_host.specs.declared.entry.Entry.{Entry}
+use Rattle.wasi_host.specs.declared.entry.Entry.TheVariants as entry
+use Rattle.wasi_host.specs.declared.stream.InStream.{InStream}
+use Rattle.wasi_host.specs.declared.stream.OutStream.{OutStream}
+use Rattle.wasi_host.specs.Deeds.{entry_at}
+use Rattle.wasi_host.specs.Calls.{Owner, Settings}
+use Rattle.wasi_host.specs.Host.{Named, Guest, Streams, Host, Rules, Answered, taken_out, put_back, input_at, put_input, output_at, put_output, guest_of, answer_at, answer_to, answer_by, answer_in, answer, called_in}
+use Rattle.wasi_host.specs.View.{input_names, output_names}
+use Rattle.wasi_host.specs.Laws.{entry_of, is_on_input, is_on_output, is_on_shared, InReach, PutsBack}
+use Rattle.wasi_host.specs.lemmas.Shown.{get_set}
+use Rattle.wasi_host.specs.lemmas.Steps.{within}
+
+-- another name's stream stays where one name's is written
+other_test : (n name key : List ℕ) → bytes_eq n name ≡ false → bytes_eq n key ≡ true → bytes_eq name key ≡ false
+other_test n name key apart same = by (bytes_eq name key) refl
+  where
+    by : (b : Bool) → bytes_eq name key ≡ b → b ≡ false
+    by false e = refl
+    by true e = absurd (true≢false (sym ((bytes_eq-Decides n name).1 ((bytes_eq-Decides n key).0 same ∙ sym ((bytes_eq-Decides name key).0 e))) ∙ apart))
+
+pub found_still : {A : Type 0} (n name : List ℕ) (named : Named A) (it : A) → bytes_eq n name ≡ false → lookup (bytes_eq name) (put_back n it named) ≡ lookup (bytes_eq name) named
+found_still n name [] it apart = refl
+found_still {A} n name (row ∷ named) it apart = by (found_still n name named it apart) (bytes_eq n row.0) refl
+  where
+    by : lookup (bytes_eq name) (put_back n it named) ≡ lookup (bytes_eq name) named → (b : Bool) → bytes_eq n row.0 ≡ b → lookup (bytes_eq name) (cond b ((row.0, it) ∷ named) (row ∷ put_back n it named)) ≡ cond (bytes_eq name row.0) (Some row.1) (lookup (bytes_eq name) named)
+    by rest true e = let no = other_test n name row.0 apart e in ap (λ b. cond b (Some it) (lookup (bytes_eq name) named)) no ∙ sym (ap (λ b. cond b (Some row.1) (lookup (bytes_eq name) named)) no)
+    by rest false e = ap (cond (bytes_eq name row.0) (Some row.1)) rest
+
+input_still : (from : Input) (it : InStream) (streams : Streams) (name : List ℕ) → input_names from name ≡ false → lookup (bytes_eq name) (put_input from it streams).inputs ≡ lookup (bytes_eq name) streams.inputs
+input_still (input.Named n) it streams name apart = found_still n name streams.inputs it apart
+input_still other it streams name apart = refl
+
+pub input_apart : (from : Input) (it : InStream) (streams : Streams) → (put_input from it streams).outputs ≡ streams.outputs
+input_apart (input.Named n) it streams = refl
+input_apart other it streams = refl
+
+output_still : (to : Output) (it : OutStream) (streams : Streams) (name : List ℕ) → output_names to name ≡ false → lookup (bytes_eq name) (put_output to it streams).outputs ≡ lookup (bytes_eq name) streams.outputs
+output_still (output.Named n) it streams name apart = found_still n name streams.outputs it apart
+output_still other it streams name apart = refl
+
+pub output_apart : (to : Output) (it : OutStream) (streams : Streams) → (put_output to it streams).inputs ≡ streams.inputs
+output_apart (output.Named n) it streams = refl
+output_apart other it streams = refl
+
+-- what a call leaves of all but its guest
+record Leaves (o : Option Entry) (settings : Settings) (done : Answered) (s : Shared) (streams : Streams) : Type 0 where
+  inputs : (name : List ℕ) → is_on_input o settings name ≡ false → lookup (bytes_eq name) done.streams.inputs ≡ lookup (bytes_eq name) streams.inputs
+  outputs : (name : List ℕ) → is_on_output o settings name ≡ false → lookup (bytes_eq name) done.streams.outputs ≡ lookup (bytes_eq name) streams.outputs
+  shared : is_on_shared o ≡ false → done.shared ≡ s
+  settings_are : done.guest.settings ≡ settings
+
+at_leaves : (rules : Rules) (it : EntryCall) (at : Owner) (o : Option Entry) (guest : Guest) (s : Shared) (streams : Streams) → Leaves o guest.settings (answer_at rules it at o guest s streams) s streams
+at_leaves rules it at None guest s streams = record { inputs = λ name apart. refl; outputs = λ name apart. refl; shared = λ apart. refl; settings_are = refl }
+at_leaves rules it at (Some (entry.Shared e)) guest s streams = record { inputs = λ name apart. refl; outputs = λ name apart. refl; shared = λ apart. absurd (true≢false apart); settings_are = refl }
+at_leaves rules it at (Some (entry.Stream standard.Input e)) guest s streams =
+    let left = (rules.called it at e (input_at guest.settings.input streams)).left in
+    record { inputs = λ name apart. input_still guest.settings.input left streams name apart; outputs = λ name apart. ap (lookup (bytes_eq name)) (input_apart guest.settings.input left streams); shared = λ apart. refl; settings_are = refl }
+at_leaves rules it at (Some (entry.Stream standard.Output e)) guest s streams =
+    let left = (rules.sent it standard.Output at e (output_at guest.settings.stdout streams)).left in
+    record { inputs = λ name apart. ap (lookup (bytes_eq name)) (output_apart guest.settings.stdout left streams); outputs = λ name apart. output_still guest.settings.stdout left streams name apart; shared = λ apart. refl; settings_are = refl }
+at_leaves rules it at (Some (entry.Stream standard.Error e)) guest s streams =
+    let left = (rules.sent it standard.Error at e (output_at guest.settings.stderr streams)).left in
+    record { inputs = λ name apart. ap (lookup (bytes_eq name)) (output_apart guest.settings.stderr left streams); outputs = λ name apart. output_still guest.settings.stderr left streams name apart; shared = λ apart. refl; settings_are = refl }
+
+to_leaves : (rules : Rules) (c : Call) (g : ℕ) (guest : Guest) (s : Shared) (streams : Streams) → Leaves (entry_of c guest) guest.settings (answer_to rules c g guest s streams) s streams
+to_leaves rules (call.On n it) g guest s streams = at_leaves rules it (record { guest = g; number = n }) (entry_at guest.own n) guest s streams
+to_leaves rules (call.Open it how) g guest s streams = record { inputs = λ name apart. refl; outputs = λ name apart. refl; shared = λ apart. refl; settings_are = refl }
+to_leaves rules (call.Drop n) g guest s streams = record { inputs = λ name apart. refl; outputs = λ name apart. refl; shared = λ apart. refl; settings_are = refl }
+to_leaves rules (call.Own it) g guest s streams = record { inputs = λ name apart. refl; outputs = λ name apart. refl; shared = λ apart. refl; settings_are = refl }
+
+by_leaves : (rules : Rules) (b : Bool) (c : Call) (g : ℕ) (guest : Guest) (s : Shared) (streams : Streams) → Leaves (entry_of c guest) guest.settings (answer_by b rules c g guest s streams) s streams
+by_leaves rules true c g guest s streams = record { inputs = λ name apart. refl; outputs = λ name apart. refl; shared = λ apart. refl; settings_are = refl }
+by_leaves rules false c g guest s streams = to_leaves rules c g guest s streams
+
+pub calls_stay : (rules : Rules) (c : Call) (g : ℕ) (host : Host) (guest : Guest) → guest_of host g ≡ Some guest → InReach (entry_of c guest) host (called_in rules c g host) g guest
+calls_stay rules c g host guest there =
+    let below = within host.guests g (ap is_some there) in
+    let done = answer rules c g host in
+    let leaves = by_leaves rules guest.ended c g guest host.shared host.streams in
+    record {
+      others = λ m apart. get_set host.guests g m (Some done.guest) None below ∙ ap (λ b. cond b (Some done.guest) (get_or host.guests m None)) (ne_eqb m g apart);
+      settings = ap (option_map (λ (guest : Guest). guest.settings)) (get_set host.guests g g (Some done.guest) None below ∙ ap (λ b. cond b (Some done.guest) (get_or host.guests g None)) (eq-eqb g g refl))
+          ∙ ap (λ o. Some (answer_in rules c g o host.shared host.streams).guest.settings) there ∙ ap Some leaves.settings_are;
+      inputs = λ name apart. ap (λ o. lookup (bytes_eq name) (answer_in rules c g o host.shared host.streams).streams.inputs) there ∙ leaves.inputs name apart;
+      outputs = λ name apart. ap (λ o. lookup (bytes_eq name) (answer_in rules c g o host.shared host.streams).streams.outputs) there ∙ leaves.outputs name apart;
+      shared = λ apart. ap (λ o. (answer_in rules c g o host.shared host.streams).shared) there ∙ leaves.shared apart;
+    }
+
+-- ---- taken out and put back
+same_put : {A : Type 0} (none : A) (test : List ℕ → Bool) (named : Named A) → set_value test named (unwrap_or (lookup test named) none) ≡ named
+same_put none test [] = refl
+same_put {A} none test (row ∷ named) = by (test row.0) (same_put none test named)
+  where
+    by : (b : Bool) → set_value test named (unwrap_or (lookup test named) none) ≡ named → cond b ((row.0, unwrap_or (cond b (Some row.1) (lookup test named)) none) ∷ named) (row ∷ set_value test named (unwrap_or (cond b (Some row.1) (lookup test named)) none)) ≡ row ∷ named
+    by true rest = refl
+    by false rest = ap (λ rest. row ∷ rest) rest
+
+next_put : {A : Type 0} (none : A) (test : List ℕ → Bool) (named : Named A) (it : A) → is_some (lookup test named) ≡ true → unwrap_or (lookup test (set_value test named it)) none ≡ it
+next_put none test [] it there = absurd (true≢false (sym there))
+next_put {A} none test (row ∷ named) it there = by (test row.0) refl (next_put none test named it) there
+  where
+    by : (b : Bool) → test row.0 ≡ b → (is_some (lookup test named) ≡ true → unwrap_or (lookup test (set_value test named it)) none ≡ it) → is_some (cond b (Some row.1) (lookup test named)) ≡ true → unwrap_or (lookup test (cond b ((row.0, it) ∷ named) (row ∷ set_value test named it))) none ≡ it
+    by true e rest there = ap (λ b. unwrap_or (cond b (Some it) (lookup test named)) none) e
+    by false e rest there = ap (λ b. unwrap_or (cond b (Some row.1) (lookup test (set_value test named it))) none) e ∙ rest there
+
+pub puts_back : {A : Type 0} (none : A) (name : List ℕ) (named : Named A) → PutsBack none name named
+puts_back none name named = record { same = same_put none (bytes_eq name) named; next = λ it there. next_put none (bytes_eq name) named it there }

@@ -1,0 +1,282 @@
+-- What steps come to: over a source that tells, what they declare, and how often they deliver.
+use Rattle.std.proofs.Common.{◌≡◌, ℕ, ◌+◌, ◌<◌, ◌≤◌, zero, suc, Bool, true, false, List, [], ◌∷◌, ◌++◌, length, get_or, set, drop, cond, Option, Some, None, refl, ap, arith, ◌∙◌, sym, subst, add-one, append-nil, append_assoc}
+use Rattle.std.specs.Str.{bytes_eq}
+use Rattle.std.specs.Map.{set_value}
+use Rattle.std.specs.Prelude.{map, MatchOption, is_some, ◌&&◌, nat_eq, nat_le, replicate}
+use Rattle.std.specs.Option.{option_map}
+use Rattle.std.proofs.lemmas.Bool.Decides.{nat_tests}
+use Rattle.std.proofs.lemmas.Grind.{common_steps}
+use Rattle.std.proofs.Math.ListN.{length-set}
+use Rattle.std.proofs.Math.Seq.{drop-cons}
+use Rattle.wasi_base.specs.Source.{Told, Given, Gives}
+use Rattle.wasi_stdin.specs.declared.mode.Mode.{Mode}
+use Rattle.wasi_stdin.specs.declared.mode.Mode.TheVariants.{Idle, Asked, Held, Failed, Closed}
+use Rattle.wasi_stdin.specs.Shared.{Shared, given_now, after_read, after_in, after_meeting, is_waiting, captured_by, capture_of}
+use Rattle.wasi_script.specs.declared.lines.Input.{Input}
+use Rattle.wasi_script.specs.declared.lines.Input.TheVariants as input
+use Rattle.wasi_script.specs.declared.lines.Output.{Output}
+use Rattle.wasi_script.specs.declared.lines.Output.TheVariants as output
+use Rattle.wasi_script.specs.declared.lines.Standard.TheVariants as standard
+use Rattle.wasi_script.specs.declared.lines.Setting.{Setting}
+use Rattle.wasi_script.specs.declared.lines.Setting.TheVariants as setting
+use Rattle.wasi_script.specs.declared.lines.EntryCall.{EntryCall}
+use Rattle.wasi_script.specs.declared.lines.EntryCall.TheVariants as ask
+use Rattle.wasi_script.specs.declared.lines.Call.{Call}
+use Rattle.wasi_script.specs.declared.lines.Call.TheVariants as call
+use Rattle.wasi_script.specs.declared.lines.WorkerTurn.TheVariants as turn
+use Rattle.wasi_script.specs.declared.lines.Line.{Line}
+use Rattle.wasi_script.specs.declared.lines.Line.TheVariants as line
+use Rattle.wasi_script.specs.Grammar.{AllStand, may_stand, names_after, no_names, setting_stands}
+use Rattle.wasi_reply.specs.declared.reply.Reply.{Reply}
+use Rattle.wasi_reply.specs.declared.reply.Reply.TheVariants as reply
+use Rattle.wasi_reply.specs.Reply.{text_of_all, reply_line}
+use Rattle.wasi_host.specs.declared.entry.Entry.{Entry}
+use Rattle.wasi_host.specs.declared.entry.Entry.TheVariants as entry
+use Rattle.wasi_host.specs.declared.entry.SharedEntry.{SharedEntry}
+use Rattle.wasi_host.specs.declared.entry.SharedEntry.TheVariants as on
+use Rattle.wasi_host.specs.declared.stream.InStream.{InStream}
+use Rattle.wasi_host.specs.declared.stream.OutStream.{OutStream}
+use Rattle.wasi_host.specs.Deeds.{entry_at}
+use Rattle.wasi_host.specs.Calls.{Owner, asked}
+use Rattle.wasi_host.specs.Host.{Named, the_rules, Rules, Guest, Streams, configured, put_input, put_output, new_input, new_output, Host, IsStep, new_guest, answer_at, answer_to, answer_by, answer_in, answer, guest_of, was_called_in, names_in, names_of, host_after, step_reply, step_host, step_told, replies, host_end, told_end, delivery_told, after_delivery, after_turn, given_for, told_for, new_host}
+use Rattle.wasi_host.specs.lemmas.Shown.{cond_same, get_set}
+
+-- over a source that tells, a step is a function of what it tells
+pub record IsToldStep (u : Told) (after : Option Told) (old new : Host) (step : Line) (answer : Reply) : Type 0 where
+  pub reply_is : answer ≡ step_reply step old u
+  pub host_is : new ≡ step_host step old u
+  pub told_is : after ≡ Some (step_told step old u)
+
+deliver_told : (c : Option ℕ) (before after : Option Told) (g : Given) (u : Told) → MatchOption c (after ≡ before) (λ size. Gives before size g after) → before ≡ Some u → (after ≡ Some (told_for c u)) × ((s : Shared) → (delivery_told c g ≡ delivery_told c (given_for c u)) × (after_delivery c s g ≡ after_delivery c s (given_for c u)))
+deliver_told None before after g u h e = (h ∙ e, λ s. (refl, refl))
+deliver_told (Some size) before after g u h e = let told = h.told u e in (told.1, λ s. (ap (λ g. delivery_told (Some size) g) told.0, ap (λ g. after_delivery (Some size) s g) told.0))
+
+pub told_step : (before after : Option Told) (old new : Host) (step : Line) (answer : Reply) (u : Told) → IsStep before after old new step answer → before ≡ Some u → IsToldStep u after old new step answer
+told_step before after old new (line.Worker turn.Deliver) answer u h e =
+    let told = deliver_told old.shared.captured before after (given_now new.shared) u h.told_is e in
+    record {
+      reply_is = h.reply_is ∙ ap reply.Worked (told.1 old.shared).0;
+      host_is = h.host_is ∙ ap (λ (shared : Shared). record { shared = shared; guests = old.guests; streams = old.streams }) (told.1 old.shared).1;
+      told_is = told.0;
+    }
+told_step before after old new other answer u h e = record { reply_is = h.reply_is; host_is = h.host_is; told_is = h.told_is ∙ e }
+
+-- what a guest's place tells after a write at n
+cond_map : {A B : Type 0} (f : A → B) (b : Bool) (x y : A) → f (cond b x y) ≡ cond b (f x) (f y)
+cond_map f true x y = refl
+cond_map f false x y = refl
+
+told_at : (f : Option Guest → Bool) (xs : List (Option Guest)) (n m : ℕ) (x : Option Guest) → n < length xs → f (get_or (set xs n x) m None) ≡ cond (nat_eq m n) (f x) (f (get_or xs m None))
+told_at f xs n m x h = ap f (get_set xs n m x None h) ∙ cond_map f (nat_eq m n) x (get_or xs m None)
+
+told_same : (f : Option Guest → Bool) (xs : List (Option Guest)) (n m : ℕ) (x : Option Guest) → n < length xs → f (get_or xs n None) ≡ f x → f (get_or (set xs n x) m None) ≡ f (get_or xs m None)
+told_same f xs n m x h e = told_at f xs n m x h ∙ cond_same (λ m. f (get_or xs m None)) m n (f x) e
+
+pub within : (xs : List (Option Guest)) (n : ℕ) → is_some (get_or xs n None) ≡ true → n < length xs
+within [] n h = absurd (cc)
+within (x ∷ xs) zero h = omega arith
+within (x ∷ xs) (suc n) h = let lt = within xs n h in omega (arith, lt)
+
+none_called : (o : Option Guest) → is_some o ≡ false → was_called_in o ≡ false
+none_called None h = refl
+none_called (Some guest) h = absurd (cc)
+
+changed_some : (change : Guest → Guest) (o : Option Guest) → is_some o ≡ is_some (option_map change o)
+changed_some change None = refl
+changed_some change (Some guest) = refl
+
+configured_called : (it : Setting) (guest : Guest) → guest.was_called ≡ (configured it guest).was_called
+configured_called (setting.Stdout to) guest = refl
+configured_called (setting.Stderr to) guest = refl
+configured_called (setting.Capacity capacity) guest = refl
+
+changed_called : (it : Setting) (o : Option Guest) → was_called_in o ≡ was_called_in (option_map (configured it) o)
+changed_called it None = refl
+changed_called it (Some guest) = configured_called it guest
+
+pub first_of : (a b : Bool) → (a && b) ≡ true → a ≡ true
+first_of true b h = refl
+first_of false b h = absurd (cc)
+
+pub second_of : (a b : Bool) → (a && b) ≡ true → b ≡ true
+second_of true b h = h
+second_of false b h = absurd (cc)
+
+-- ---- a call marks its guest as called, and leaves the names of the streams, whatever the rules are
+more_names : {A : Type 0} (named : Named A) (name : List ℕ) (it : A) → names_in (named ++ (name, it) ∷ []) ≡ names_in named ++ name ∷ []
+more_names [] name it = refl
+more_names (row ∷ named) name it = ap (λ rest. row.0 ∷ rest) (more_names named name it)
+
+same_names : {A : Type 0} (test : List ℕ → Bool) (named : Named A) (it : A) → names_in (set_value test named it) ≡ names_in named
+same_names test [] it = refl
+same_names {A} test (row ∷ named) it = by (test row.0) (same_names test named it)
+  where
+    by : (b : Bool) → names_in (set_value test named it) ≡ names_in named → names_in {A = A} (cond b ((row.0, it) ∷ named) (row ∷ set_value test named it)) ≡ row.0 ∷ names_in named
+    by true rest = refl
+    by false rest = ap (λ names. row.0 ∷ names) rest
+
+pub record SameNames (after before : Streams) : Type 0 where
+  pub inputs : names_in after.inputs ≡ names_in before.inputs
+  pub outputs : names_in after.outputs ≡ names_in before.outputs
+
+put_input_names : (from : Input) (it : InStream) (streams : Streams) → SameNames (put_input from it streams) streams
+put_input_names (input.Named name) it streams = record { inputs = same_names (bytes_eq name) streams.inputs it; outputs = refl }
+put_input_names other it streams = record { inputs = refl; outputs = refl }
+
+put_output_names : (to : Output) (it : OutStream) (streams : Streams) → SameNames (put_output to it streams) streams
+put_output_names (output.Named name) it streams = record { inputs = refl; outputs = same_names (bytes_eq name) streams.outputs it }
+put_output_names other it streams = record { inputs = refl; outputs = refl }
+
+at_names : (rules : Rules) (it : EntryCall) (at : Owner) (o : Option Entry) (guest : Guest) (s : Shared) (streams : Streams) → SameNames (answer_at rules it at o guest s streams).streams streams
+at_names rules it at None guest s streams = record { inputs = refl; outputs = refl }
+at_names rules it at (Some (entry.Shared e)) guest s streams = record { inputs = refl; outputs = refl }
+at_names rules it at (Some (entry.Stream standard.Input e)) guest s streams = put_input_names guest.settings.input _ streams
+at_names rules it at (Some (entry.Stream standard.Output e)) guest s streams = put_output_names guest.settings.stdout _ streams
+at_names rules it at (Some (entry.Stream standard.Error e)) guest s streams = put_output_names guest.settings.stderr _ streams
+
+to_names : (rules : Rules) (c : Call) (g : ℕ) (guest : Guest) (s : Shared) (streams : Streams) → SameNames (answer_to rules c g guest s streams).streams streams
+to_names rules (call.On n it) g guest s streams = at_names rules it (record { guest = g; number = n }) (entry_at guest.own n) guest s streams
+to_names rules other g guest s streams = record { inputs = refl; outputs = refl }
+
+by_names : (rules : Rules) (b : Bool) (c : Call) (g : ℕ) (guest : Guest) (s : Shared) (streams : Streams) → SameNames (answer_by b rules c g guest s streams).streams streams
+by_names rules true c g guest s streams = record { inputs = refl; outputs = refl }
+by_names rules false c g guest s streams = to_names rules c g guest s streams
+
+pub answered_names : (rules : Rules) (c : Call) (g : ℕ) (o : Option Guest) (s : Shared) (streams : Streams) → SameNames (answer_in rules c g o s streams).streams streams
+answered_names rules c g None s streams = record { inputs = refl; outputs = refl }
+answered_names rules c g (Some guest) s streams = by_names rules guest.ended c g guest s streams
+
+at_called : (rules : Rules) (it : EntryCall) (at : Owner) (o : Option Entry) (guest : Guest) (s : Shared) (streams : Streams) → (answer_at rules it at o guest s streams).guest.was_called ≡ true
+at_called rules it at None guest s streams = refl
+at_called rules it at (Some (entry.Shared e)) guest s streams = refl
+at_called rules it at (Some (entry.Stream standard.Input e)) guest s streams = refl
+at_called rules it at (Some (entry.Stream standard.Output e)) guest s streams = refl
+at_called rules it at (Some (entry.Stream standard.Error e)) guest s streams = refl
+
+to_called : (rules : Rules) (c : Call) (g : ℕ) (guest : Guest) (s : Shared) (streams : Streams) → (answer_to rules c g guest s streams).guest.was_called ≡ true
+to_called rules (call.On n it) g guest s streams = at_called rules it (record { guest = g; number = n }) (entry_at guest.own n) guest s streams
+to_called rules (call.Open it how) g guest s streams = refl
+to_called rules (call.Drop n) g guest s streams = refl
+to_called rules (call.Own it) g guest s streams = refl
+
+by_called : (rules : Rules) (b : Bool) (c : Call) (g : ℕ) (guest : Guest) (s : Shared) (streams : Streams) → (answer_by b rules c g guest s streams).guest.was_called ≡ true
+by_called rules true c g guest s streams = refl
+by_called rules false c g guest s streams = to_called rules c g guest s streams
+
+called_now : (rules : Rules) (c : Call) (g : ℕ) (o : Option Guest) (s : Shared) (streams : Streams) → is_some o ≡ true → (answer_in rules c g o s streams).guest.was_called ≡ true
+called_now rules c g None s streams h = absurd (cc)
+called_now rules c g (Some guest) s streams h = by_called rules guest.ended c g guest s streams
+
+-- what a step declares, and whose call it is
+pub names_step : (step : Line) (old : Host) (g : Given) → length old.guests ≡ 64 → may_stand (names_of old) step ≡ true → names_of (host_after step old g) ≡ names_after (names_of old) step
+names_step (line.Input name it) old g len h = λ i. record (names_of old) { inputs = more_names old.streams.inputs name (new_input it) i }
+names_step (line.Output name it) old g len h = λ i. record (names_of old) { outputs = more_names old.streams.outputs name (new_output it) i }
+names_step (line.Guest n reads) old g len h =
+    let lt : n < length old.guests = rw len (grind (arith, nat_tests, h)) in
+    let new : is_some (get_or old.guests n None) ≡ false = grind (arith, nat_tests, h) in
+    λ i. record (names_of old) {
+      is_guest = λ m. told_at is_some old.guests n m (Some (new_guest reads)) lt i;
+      was_called = λ m. told_same was_called_in old.guests n m (Some (new_guest reads)) lt (none_called (get_or old.guests n None) new) i;
+    }
+names_step (line.Configure n it) old g len h =
+    let there : is_some (guest_of old n) ≡ true = first_of _ _ (first_of _ (setting_stands (names_of old) it) h) in
+    let lt : n < length old.guests = within old.guests n there in
+    let changed : Option Guest = option_map (configured it) (get_or old.guests n None) in
+    λ i. record (names_of old) {
+      is_guest = λ m. told_same is_some old.guests n m changed lt (changed_some (configured it) (get_or old.guests n None)) i;
+      was_called = λ m. told_same was_called_in old.guests n m changed lt (changed_called it (get_or old.guests n None)) i;
+    }
+names_step (line.Call n c) old g len h =
+    let lt : n < length old.guests = within old.guests n h in
+    let guest : Guest = (answer the_rules c n old).guest in
+    let names = answered_names the_rules c n (guest_of old n) old.shared old.streams in
+    λ i. record {
+      is_guest = λ m. told_same is_some old.guests n m (Some guest) lt h i;
+      was_called = λ m. (told_at was_called_in old.guests n m (Some guest) lt ∙ ap (λ b. cond (nat_eq m n) b (was_called_in (get_or old.guests m None))) (called_now the_rules c n (guest_of old n) old.shared old.streams h)) i;
+      inputs = names.inputs i;
+      outputs = names.outputs i;
+    }
+names_step (line.Worker it) old g len h = refl
+
+-- nobody is declared at first
+none_at : (f : Option Guest → Bool) → f None ≡ false → (count n : ℕ) → let none : Option Guest = None in f (get_or (replicate count None) n none) ≡ false
+none_at f none zero n = none
+none_at f none (suc count) zero = none
+none_at f none (suc count) (suc n) = none_at f none count n
+
+pub names_new : names_of new_host ≡ no_names
+names_new = λ i. record { is_guest = λ n. none_at is_some refl 64 n i; was_called = λ n. none_at was_called_in refl 64 n i; inputs = []; outputs = [] }
+
+-- no step makes or drops a place for a guest
+pub places_step : (step : Line) (old : Host) (g : Given) → length (host_after step old g).guests ≡ length old.guests
+places_step (line.Guest n reads) old g = length-set old.guests n (Some (new_guest reads))
+places_step (line.Configure n it) old g = length-set old.guests n (option_map (configured it) (guest_of old n))
+places_step (line.Call n c) old g = length-set old.guests n (Some (answer the_rules c n old).guest)
+places_step other old g = refl
+
+-- ---- no call makes a delivery
+met_count : (m : Mode) (s : Shared) (size : ℕ) → (after_in m s size).deliveries ≡ s.deliveries
+met_count Idle s size = refl
+met_count (Asked n) s size = refl
+met_count Held s size = refl
+met_count (Failed kind) s size = refl
+met_count Closed s size = refl
+
+after_read_count : (s : Shared) (size : ℕ) → (after_read s size).deliveries ≡ s.deliveries
+after_read_count s zero = refl
+after_read_count s (suc n) = met_count s.mode s (suc n)
+
+after_poll_count : (waiting : Bool) (s : Shared) (room : ℕ) → (cond waiting s (after_meeting s room)).deliveries ≡ s.deliveries
+after_poll_count true s room = refl
+after_poll_count false s room = met_count s.mode s room
+
+asked_count : (it : EntryCall) (at : Owner) (e : SharedEntry) (s : Shared) → (asked it at e s).left.deliveries ≡ s.deliveries
+asked_count (ask.Read size) at on.Reader s = after_read_count s size
+asked_count (ask.Skip size) at on.Reader s = after_read_count s size
+asked_count (ask.PollRead room) at (on.Polled wait) s = after_poll_count (is_waiting wait s.deliveries) s room
+asked_count ask.Subscribe at on.Reader s = refl
+asked_count ask.Ready at (on.Pollable wait) s = refl
+asked_count ask.Block at (on.Pollable None) s = refl
+asked_count ask.Block at (on.Pollable (Some since)) s = refl
+asked_count other at e s = refl
+
+at_count : (it : EntryCall) (at : Owner) (o : Option Entry) (guest : Guest) (s : Shared) (streams : Streams) → (answer_at the_rules it at o guest s streams).shared.deliveries ≡ s.deliveries
+at_count it at None guest s streams = refl
+at_count it at (Some (entry.Shared e)) guest s streams = asked_count it at e s
+at_count it at (Some (entry.Stream standard.Input e)) guest s streams = refl
+at_count it at (Some (entry.Stream standard.Output e)) guest s streams = refl
+at_count it at (Some (entry.Stream standard.Error e)) guest s streams = refl
+
+to_count : (c : Call) (g : ℕ) (guest : Guest) (s : Shared) (streams : Streams) → (answer_to the_rules c g guest s streams).shared.deliveries ≡ s.deliveries
+to_count (call.On n it) g guest s streams = at_count it (record { guest = g; number = n }) (entry_at guest.own n) guest s streams
+to_count other g guest s streams = refl
+
+by_count : (b : Bool) (c : Call) (g : ℕ) (guest : Guest) (s : Shared) (streams : Streams) → (answer_by b the_rules c g guest s streams).shared.deliveries ≡ s.deliveries
+by_count true c g guest s streams = refl
+by_count false c g guest s streams = to_count c g guest s streams
+
+called_count : (c : Call) (g : ℕ) (o : Option Guest) (s : Shared) (streams : Streams) → (answer_in the_rules c g o s streams).shared.deliveries ≡ s.deliveries
+called_count c g None s streams = refl
+called_count c g (Some guest) s streams = by_count guest.ended c g guest s streams
+
+captured_count : (c : Option ℕ) (s : Shared) → (captured_by c s).deliveries ≡ s.deliveries
+captured_count None s = refl
+captured_count (Some n) s = refl
+
+delivery_count : (c : Option ℕ) (s : Shared) (g : Given) → (after_delivery c s g).deliveries ≤ s.deliveries + 1
+delivery_count None s g = omega arith
+delivery_count (Some n) s g = omega arith
+
+pub count_step : (step : Line) (old : Host) (g : Given) → (host_after step old g).shared.deliveries ≤ old.shared.deliveries + 1
+count_step (line.Call n c) old g = omega (arith, called_count c n (guest_of old n) old.shared old.streams)
+count_step (line.Worker turn.Capture) old g = omega (arith, captured_count (capture_of old.shared) old.shared)
+count_step (line.Worker turn.Deliver) old g = delivery_count old.shared.captured old.shared g
+count_step other old g = omega arith
+
+pub next_step : (steps : List Line) (i : ℕ) (step : Line) → i < length steps → get_or steps i step ≡ step → drop i steps ≡ step ∷ drop (i + 1) steps
+next_step steps i step h is = rw (add-one) (drop-cons steps i step h ∙ ap (λ step. step ∷ drop (suc i) steps) is)
+
+pub stand_on : (old new : Host) (g : Given) (steps : List Line) (i : ℕ) (step : Line) → i < length steps → get_or steps i step ≡ step → length old.guests ≡ 64 → AllStand (names_of old) (drop i steps) → new ≡ host_after step old g → AllStand (names_of new) (drop (i + 1) steps)
+stand_on old new g steps i step lt at places stand is =
+    let both : AllStand (names_of old) (step ∷ drop (i + 1) steps) = subst (λ rest. AllStand (names_of old) rest) (next_step steps i step lt at) stand in
+    rw (is, names_step step old g places both.0) both.1

@@ -1,0 +1,47 @@
+ghost use Rattle.wasi_host.specs.Laws.{HostRuns, CallsStayInReach, InputsArePutBack, OutputsArePutBack, GuestsAreIsolated, EachIsAlone, OutputsKeep, OutputsFill};
+
+/// A law: over a source that tells, what the host replies to the steps of a valid script is a run
+/// of the rules on the shared input, which its text shows.
+pub fn a_run_of_the_host()
+    ensures { HostRuns }
+{}
+
+/// A law, for every call and whatever the rules of calls are: a call leaves the other guests, its
+/// own guest's settings, each stream but the one that it is on, and the shared input unless it is
+/// on that, as they were. What it is on the entry at its number says.
+pub fn calls_stay_in_reach()
+    ensures { CallsStayInReach }
+{}
+
+/// A law: a stream that is put back as it was taken out leaves all streams as they were, and what
+/// was put back is what is taken out next.
+pub fn what_is_put_back()
+    ensures inputs { InputsArePutBack }
+    ensures outputs { OutputsArePutBack }
+{}
+
+/// A law: of two lists of steps let a guest read the shared input in neither, let no other guest's
+/// lines name what its own name, and let it see the same of both. Then its replies are the same,
+/// numbers of entries included, and so is what its outputs took.
+pub fn guests_are_isolated()
+    ensures { GuestsAreIsolated }
+{}
+
+/// A law: in particular they are those of a session of what the guest sees alone.
+pub fn each_guest_is_alone()
+    ensures { EachIsAlone }
+{}
+
+/// A law: a write that is told to be done adds all its bytes to what its output took, in order; one
+/// that failed adds a first part of them, one that trapped none; and no other call adds any.
+pub fn outputs_keep_what_they_took()
+    ensures { OutputsKeep }
+{}
+
+/// A law, for whole sessions: an output is empty when it is declared, and then each step adds to it
+/// what its reply says of a write that goes there, and no other step adds any. So in the end it has
+/// every write that was done, whole and in order, and of each that failed a first part; and that is
+/// what the transcript prints of it.
+pub fn outputs_fill_in_order()
+    ensures { OutputsFill }
+{}

@@ -1,0 +1,7 @@
+-- The one deed that takes memory.
+use Rattle.wasi_host.specs.declared.deed.Deed.{Deed}
+use Rattle.wasi_host.specs.declared.deed.Deed.TheVariants.{Make}
+
+abbrev pub IsMake : Deed → Type 0
+IsMake (Make entry parent) = Unit {0}
+IsMake other = ⊥
