@@ -29,7 +29,7 @@ pub enum StreamEntry {
 }
 
 /// What stands at a number of a guest's: it says what it is on.
-#[derive(Clone, Copy, Drop)]
+#[derive(Drop)]
 pub enum Entry {
     /// On the shared input.
     Shared(SharedEntry),

@@ -1,5 +1,5 @@
-pub mod ReadFacts
-pub mod TellFacts
 pub mod GuestFacts
-pub mod OwnFacts
+pub mod LoopFacts
+pub mod ReadFacts
 pub mod RowFacts
+pub mod TellFacts

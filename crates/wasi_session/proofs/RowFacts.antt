@@ -1,15 +1,11 @@
 -- A stream among the rows of a map by name: found, written, and one more.
 use Rattle.std.proofs.Common.{◌≡◌, ℕ, Bool, true, false, cond, List, [], ◌∷◌, ◌++◌, Some, None, Result, Ok, Err, refl, ap, sym, ◌∙◌, true≢false}
-use Rattle.std.specs.Prelude.{IfOk, OnErr, is_some, Vec}
+use Rattle.std.specs.Prelude.{IfOk, OnOk, OnErr, is_some, unwrap_or, Vec}
 use Rattle.std.specs.Map.{lookup, set_value}
 use Rattle.std.specs.Str.{bytes_eq}
 use Rattle.indexmap.specs.IndexMap.{insert_entry}
-use Rattle.wasi_host.specs.declared.reply.Reply.{Reply}
-use Rattle.wasi_host.specs.declared.stream.Stream.{Stream}
-use Rattle.wasi_host.specs.declared.stream.Stream.TheVariants.{Closed}
-use Rattle.wasi_host.specs.Host.{Streams, or_closed, stream_of, put_stream}
+use Rattle.wasi_host.specs.Host.{Named, Streams, taken_out, put_back}
 use Rattle.wasi_session.specs.Rows.{rows_of}
-use Rattle.wasi_session.specs.declared.state.State.{State}
 
 module _ {K V : Type 0} (test : K → Bool) where
   pub absent_same : (es : List (K × V)) (w : V) → lookup test es ≡ None → set_value test es w ≡ es
@@ -56,33 +52,66 @@ row_added es es' now key name it is named none after =
     ∙ rows_push es key it (ap (λ name. lookup (bytes_eq name) (rows_of es)) named ∙ ap (lookup (bytes_eq name)) is ∙ none)
     ∙ (λ i. is i ++ (named i, it) ∷ [])
 
--- a call on a stream that is there
-pub stream_there : {A : Type 0} (es : List (Vec ℕ A × Stream)) (now : Streams) (name : List ℕ) (it : Stream) → rows_of es ≡ now → Some it ≡ lookup (λ (key : Vec ℕ A). bytes_eq name key.items) es → stream_of name now ≡ it
-stream_there es now name it is found = ap (λ rows. stream_of name rows) (sym is) ∙ ap or_closed (rows_lookup name es ∙ sym found)
+-- a stream that is there: it is the one that is taken out, and what is written is put back
+pub row_there : {A S : Type 0} (none : S) (es : List (Vec ℕ A × S)) (name : List ℕ) (it : S) → Some it ≡ lookup (λ (key : Vec ℕ A). bytes_eq name key.items) es → taken_out none name (rows_of es) ≡ it
+row_there none es name it found = ap (λ o. unwrap_or o none) (rows_lookup name es ∙ sym found)
 
-pub stream_put : {A : Type 0} (es es' : List (Vec ℕ A × Stream)) (now : Streams) (name : List ℕ) (it : Stream) → rows_of es ≡ now → es' ≡ set_value (λ (key : Vec ℕ A). bytes_eq name key.items) es it → rows_of es' ≡ put_stream name it now
-stream_put es es' now name it is after = ap rows_of after ∙ rows_set name es it ∙ ap (λ rows. put_stream name it rows) is
+pub row_put : {A S : Type 0} (es es' : List (Vec ℕ A × S)) (name : List ℕ) (it : S) → es' ≡ set_value (λ (key : Vec ℕ A). bytes_eq name key.items) es it → rows_of es' ≡ put_back name it (rows_of es)
+row_put es es' name it after = ap rows_of after ∙ rows_set name es it
 
-pub left_there : {E : Type 0} (result : Result Reply E) (now rows : Streams) (name : List ℕ) (leaves : Stream → Stream) (it after : Stream) → stream_of name now ≡ it → rows ≡ put_stream name after now → IfOk result (λ reply. after ≡ leaves it) → IfOk result (λ reply. rows ≡ put_stream name (leaves (stream_of name now)) now)
-left_there (Err error) now rows name leaves it after there is left = tt
-left_there (Ok answer) now rows name leaves it after there is left = rw there (is ∙ ap (λ it. put_stream name it now) left)
+pub row_again : {A S : Type 0} (es es' : List (Vec ℕ A × S)) (name : List ℕ) (it after : S) → Some it ≡ lookup (λ (key : Vec ℕ A). bytes_eq name key.items) es → es' ≡ set_value (λ (key : Vec ℕ A). bytes_eq name key.items) es after → after ≡ it → es' ≡ es
+row_again {A} es es' name it after found put same = put ∙ ap (λ it. set_value (λ (key : Vec ℕ A). bytes_eq name key.items) es it) same ∙ there_same (λ (key : Vec ℕ A). bytes_eq name key.items) es it (sym found)
 
-pub err_there : {E A : Type 0} (result : Result Reply E) (es es' : List (Vec ℕ A × Stream)) (now : Streams) (name : List ℕ) (before after : Stream) (old new : State) → rows_of es ≡ now → Some before ≡ lookup (λ (key : Vec ℕ A). bytes_eq name key.items) es → es' ≡ set_value (λ (key : Vec ℕ A). bytes_eq name key.items) es after → OnErr result ((new ≡ old) × (after ≡ before)) → OnErr result ((rows_of es' ≡ now) × (new ≡ old))
-err_there (Ok answer) es es' now name before after old new is found put same = tt
-err_there {E} {A} (Err error) es es' now name before after old new is found put same = (
-  ap rows_of (put ∙ ap (λ it. set_value (λ (key : Vec ℕ A). bytes_eq name key.items) es it) same.1 ∙ there_same (λ (key : Vec ℕ A). bytes_eq name key.items) es before (sym found)) ∙ is,
-  same.0,
-)
+-- and one that is not
+pub row_none : {A S : Type 0} (none : S) (es : List (Vec ℕ A × S)) (name : List ℕ) → None ≡ lookup (λ (key : Vec ℕ A). bytes_eq name key.items) es → taken_out none name (rows_of es) ≡ none
+row_none none es name absent = ap (λ o. unwrap_or o none) (rows_lookup name es ∙ sym absent)
 
--- and on one that is not
-pub stream_none : {A : Type 0} (es : List (Vec ℕ A × Stream)) (now : Streams) (name : List ℕ) → rows_of es ≡ now → None ≡ lookup (λ (key : Vec ℕ A). bytes_eq name key.items) es → stream_of name now ≡ Closed
-stream_none es now name is none = ap (λ rows. stream_of name rows) (sym is) ∙ ap or_closed (rows_lookup name es ∙ sym none)
+pub none_put : {A S : Type 0} (es : List (Vec ℕ A × S)) (name : List ℕ) (it : S) → None ≡ lookup (λ (key : Vec ℕ A). bytes_eq name key.items) es → put_back name it (rows_of es) ≡ rows_of es
+none_put es name it absent = absent_same (bytes_eq name) (rows_of es) it (rows_lookup name es ∙ sym absent)
 
-pub left_none : {E A : Type 0} (result : Result Reply E) (es es' : List (Vec ℕ A × Stream)) (now : Streams) (name : List ℕ) (it : Stream) → rows_of es ≡ now → None ≡ lookup (λ (key : Vec ℕ A). bytes_eq name key.items) es → es' ≡ es → IfOk result (λ reply. rows_of es' ≡ put_stream name it now)
-left_none (Err error) es es' now name it is none same = tt
-left_none (Ok answer) es es' now name it is none same =
-    ap rows_of same ∙ is ∙ sym (absent_same (bytes_eq name) now it (ap (lookup (bytes_eq name)) (sym is) ∙ rows_lookup name es ∙ sym none))
+-- ---- what a call on a stream under a name leaves of all streams; `whole` puts one kind of them beside the other
+module _ {E A D S : Type 0} (whole : Named S → Streams) (none : S) (result : Result D E) (es es' : List (Vec ℕ A × S)) (name : List ℕ) where
+  abbrev here : Vec ℕ A → Bool
+  here key = bytes_eq name key.items
 
-pub err_none : {E A : Type 0} (result : Result Reply E) (es es' : List (Vec ℕ A × Stream)) (now : Streams) (old new : State) → rows_of es ≡ now → es' ≡ es → OnErr result (new ≡ old) → OnErr result ((rows_of es' ≡ now) × (new ≡ old))
-err_none (Ok answer) es es' now old new is same kept = tt
-err_none (Err error) es es' now old new is same kept = (ap rows_of same ∙ is, kept)
+  pub left_there : (it after : S) (leaves : S → S) → Some it ≡ lookup here es → es' ≡ set_value here es after → OnOk result (after ≡ leaves it) → OnOk result (whole (rows_of es') ≡ whole (put_back name (leaves (taken_out none name (rows_of es))) (rows_of es)))
+  left_there it after leaves found put left = by result left
+    where
+      by : (result : Result D E) → OnOk result (after ≡ leaves it) → OnOk result (whole (rows_of es') ≡ whole (put_back name (leaves (taken_out none name (rows_of es))) (rows_of es)))
+      by (Err e) left = tt
+      by (Ok d) left = ap whole (row_put es es' name after put ∙ ap (λ it. put_back name it (rows_of es)) (left ∙ ap leaves (sym (row_there none es name it found))))
+
+  pub made_there : (P : D → Type 0) (it after : S) → Some it ≡ lookup here es → es' ≡ set_value here es after → IfOk result (λ d. P d → after ≡ it) → IfOk result (λ d. P d → whole (rows_of es') ≡ whole (rows_of es))
+  made_there P it after found put made = by result made
+    where
+      by : (result : Result D E) → IfOk result (λ d. P d → after ≡ it) → IfOk result (λ d. P d → whole (rows_of es') ≡ whole (rows_of es))
+      by (Err e) made = tt
+      by (Ok d) made = λ is. ap (λ es. whole (rows_of es)) (row_again es es' name it after found put (made is))
+
+  pub err_there : (it after : S) → Some it ≡ lookup here es → es' ≡ set_value here es after → OnErr result (after ≡ it) → OnErr result (whole (rows_of es') ≡ whole (rows_of es))
+  err_there it after found put same = by result same
+    where
+      by : (result : Result D E) → OnErr result (after ≡ it) → OnErr result (whole (rows_of es') ≡ whole (rows_of es))
+      by (Ok d) same = tt
+      by (Err e) same = ap (λ es. whole (rows_of es)) (row_again es es' name it after found put same)
+
+  pub left_none : (it : S) → None ≡ lookup here es → es' ≡ es → OnOk result (whole (rows_of es') ≡ whole (put_back name it (rows_of es)))
+  left_none it absent same = by result
+    where
+      by : (result : Result D E) → OnOk result (whole (rows_of es') ≡ whole (put_back name it (rows_of es)))
+      by (Err e) = tt
+      by (Ok d) = ap whole (ap rows_of same ∙ sym (none_put es name it absent))
+
+  pub made_none : (P : D → Type 0) → es' ≡ es → IfOk result (λ d. P d → whole (rows_of es') ≡ whole (rows_of es))
+  made_none P same = by result
+    where
+      by : (result : Result D E) → IfOk result (λ d. P d → whole (rows_of es') ≡ whole (rows_of es))
+      by (Err e) = tt
+      by (Ok d) = λ is. ap (λ es. whole (rows_of es)) same
+
+  pub err_none : es' ≡ es → OnErr result (whole (rows_of es') ≡ whole (rows_of es))
+  err_none same = by result
+    where
+      by : (result : Result D E) → OnErr result (whole (rows_of es') ≡ whole (rows_of es))
+      by (Ok d) = tt
+      by (Err e) = ap (λ es. whole (rows_of es)) same

@@ -1,6 +1,7 @@
-pub mod States
 pub mod Rows
-pub mod Refusals
 pub mod Sitting
 pub mod Reading
 pub mod Program
+pub mod Makes
+pub mod Capacities
+pub mod StreamCalls

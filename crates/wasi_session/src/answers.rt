@@ -1,58 +1,66 @@
 ghost use Rattle.std.specs.Prelude.{◌≡◌};
-ghost use Rattle.wasi_host.specs.Calls.{error_reply, count_reply, done_reply, poll_count_reply, poll_done_reply};
+ghost use Rattle.wasi_host.specs.Calls.{error_told, result_told, poll_told, is_done, mistaken};
 
-use wasi_base::{Polled, StreamError};
-use wasi_host::Reply;
+use wasi_base::{Polled, StreamError, TrapText};
+use wasi_host::Deed;
+use wasi_reply::Told;
 
-// Want of memory is no answer of a stream here: it comes before a stream is asked.
-fn told_error(error: StreamError) -> Reply
-    ensures { result ≡ error_reply error }
+// No stream answers that it is out of memory here: that comes before a stream is asked.
+pub fn told_error(error: StreamError) -> Told
+    ensures { result ≡ error_told error }
 {
     match error {
-        StreamError::Closed => Reply::Closed,
-        StreamError::LastOperationFailed(kind) => Reply::Failed(kind),
-        StreamError::Trap(text) => Reply::Trap(text),
-        StreamError::OutOfMemory => Reply::Pending,
+        StreamError::Closed => Told::Closed,
+        StreamError::LastOperationFailed(kind) => Told::Failed(kind),
+        StreamError::Trap(text) => Told::Trap(text),
+        StreamError::OutOfMemory => Told::Pending,
     }
 }
 
-/// The reply that tells how many.
-pub fn told_count(answer: Result<u64, StreamError>) -> Reply
-    ensures { result ≡ count_reply answer }
+/// What tells how many.
+pub fn told_count(answer: Result<u64, StreamError>) -> Told
+    ensures { result ≡ result_told Told.Count answer }
 {
     match answer {
-        Ok(count) => Reply::Count(count),
+        Ok(count) => Told::Count(count),
         Err(error) => told_error(error),
     }
 }
 
-/// The reply that tells that it is done.
-pub fn told_done(answer: Result<(), StreamError>) -> Reply
-    ensures { result ≡ done_reply answer }
+/// What tells that it is done.
+pub fn told_done(answer: Result<(), StreamError>) -> Told
+    ensures { result ≡ result_told is_done answer }
 {
     match answer {
-        Ok(()) => Reply::Ok,
+        Ok(()) => Told::Ok,
         Err(error) => told_error(error),
     }
 }
 
 /// The same of a polled call.
-pub fn told_polled_count(answer: Polled<u64>) -> Reply
-    ensures { result ≡ poll_count_reply answer }
+pub fn told_polled_count(answer: Polled<u64>) -> Told
+    ensures { result ≡ poll_told Told.Count answer }
 {
     match answer {
-        Polled::Pending => Reply::Pending,
-        Polled::Ready(count) => Reply::Count(count),
-        Polled::Failed(kind) => Reply::Failed(kind),
+        Polled::Pending => Told::Pending,
+        Polled::Ready(count) => Told::Count(count),
+        Polled::Failed(kind) => Told::Failed(kind),
     }
 }
 
-pub fn told_polled_done(answer: Polled<()>) -> Reply
-    ensures { result ≡ poll_done_reply answer }
+pub fn told_polled_done(answer: Polled<()>) -> Told
+    ensures { result ≡ poll_told is_done answer }
 {
     match answer {
-        Polled::Pending => Reply::Pending,
-        Polled::Ready(()) => Reply::Ok,
-        Polled::Failed(kind) => Reply::Failed(kind),
+        Polled::Pending => Told::Pending,
+        Polled::Ready(()) => Told::Ok,
+        Polled::Failed(kind) => Told::Failed(kind),
     }
+}
+
+/// A call that the entry does not take.
+pub fn mistaken() -> Deed
+    ensures { result ≡ mistaken }
+{
+    Deed::Tell(Told::Trap(TrapText::ResourceWrongType))
 }

@@ -1,38 +1,47 @@
-ghost use Rattle.std.specs.Prelude.{◌≡◌, ◌≤◌, IfOk, OnErr};
-ghost use Rattle.wasi_host.specs.Host.{the_rules, new_guest, with_capacity, with_stdout, with_stderr, answer_to};
+ghost use Rattle.std.specs.Prelude.{◌≡◌, IfOk, OnOk, OnErr, true, false};
+ghost use Rattle.wasi_reply.specs.Reply.{ends};
+ghost use Rattle.wasi_host.specs.Calls.{opened, owned, exit_status};
+ghost use Rattle.wasi_host.specs.Deeds.{entry_at, apart};
+ghost use Rattle.wasi_session.specs.Makes.{IsMake};
+ghost use Rattle.wasi_session.specs.Capacities.{CapacityFits};
+ghost use Rattle.wasi_session.specs.StreamCalls.{stream_doing};
+ghost use Rattle.wasi_host.specs.Host.{the_rules, new_guest, configured, left_guest, settled, answer_at, answer_to, answer_by};
 
-use crate::state::State;
+use crate::own::Own;
+use crate::shared;
 use crate::streams::Streams;
 use std::alloc::Global;
 use std::marker::Model;
-use wasi_base::OutOfMemory;
-use wasi_host::{Reply, Standard};
-use wasi_script::{Call, Input, Output};
-use wasi_stdin::StdinCore;
+use wasi_base::{OutOfMemory, TrapText};
+use wasi_host::{Deed, Entry, Owner, Settings, SharedEntry, StreamEntry};
+use wasi_reply::{Reply, Told};
+use wasi_script::{Access, Call, EntryCall, ExitStatus, Input, Output, OwnCall, Setting, Standard};
+use wasi_stdin::{StdinCore, Wait};
 
 /// How many entries a guest may have unless a line says otherwise.
 const CAPACITY: u32 = 1024;
 
-/// A guest: what configuration lines say of it, and its state.
+/// A guest: what configuration lines say of it, what it owns, and whether it was called and
+/// whether it ended.
 #[derive(Drop)]
 pub struct Guest {
-    input: Input,
-    stdout: Output,
-    stderr: Output,
-    state: State,
+    settings: Settings,
+    own: Own,
+    was_called: bool,
+    ended: bool,
 }
 
 impl Model for Guest {
-    ghost use Rattle.wasi_script.specs.contracts.lines.Input.{the_row as input_row};
-    ghost use Rattle.wasi_script.specs.contracts.lines.Output.{the_row as output_row};
+    ghost use Rattle.wasi_host.specs.contracts.settings.Settings.{the_row as settings_row};
+    ghost use Rattle.wasi_session.specs.contracts.own.Own.{the_row as own_row};
     ghost use Rattle.wasi_host.specs.Host.{Guest};
     ghost use Rattle.wasi_host.specs.Codes.{guest_code};
 
     ghost Value = { Guest };
 
-    ghost coded = { guest_code input_row.coded output_row.coded };
+    ghost coded = { guest_code settings_row.coded own_row.coded };
 
-    ghost view = { λ g. record { settings = record { input = g.input; stdout = g.stdout; stderr = g.stderr }; own = g.state.own; was_called = g.state.was_called; ended = g.state.ended } };
+    ghost view = { λ g. record { settings = g.settings; own = g.own; was_called = g.was_called; ended = g.ended } };
 }
 
 impl Guest {
@@ -40,57 +49,198 @@ impl Guest {
         ensures { result ≡ new_guest input }
     {
         Guest {
-            input,
-            stdout: Output::Empty,
-            stderr: Output::Empty,
-            state: State::new(alloc, CAPACITY),
+            settings: Settings {
+                input,
+                stdout: Output::Empty,
+                stderr: Output::Empty,
+            },
+            own: Own::new(alloc, CAPACITY),
+            was_called: false,
+            ended: false,
         }
     }
 
-    /// Gives the guest room for this many entries, and none of them.
-    pub fn set_capacity(&mut self, alloc: Global, capacity: u32)
-        requires low { 1 ≤ capacity }
-        requires high { capacity ≤ 65536 }
-        ensures { self.new ≡ with_capacity capacity self.old }
+    /// Takes over what a line says of the guest. Out of memory leaves it as it was.
+    pub fn configure(&mut self, alloc: Global, setting: &Setting) -> Result<(), OutOfMemory>
+        requires { CapacityFits setting.now }
+        ensures ok { OnOk result (self.new ≡ configured setting.now self.old) }
+        ensures err { OnErr result (self.new ≡ self.old) }
     {
-        self.state.set_capacity(alloc, capacity);
+        match setting {
+            Setting::Stdout(output) => self.settings.stdout = copy_output(alloc, output)?,
+            Setting::Stderr(output) => self.settings.stderr = copy_output(alloc, output)?,
+            Setting::Capacity(capacity) => self.own.resize(alloc, *capacity),
+        }
+        Ok(())
     }
 
-    pub fn set_stdout(&mut self, output: Output)
-        ensures { self.new ≡ with_stdout output self.old }
-    {
-        self.stdout = output;
-    }
-
-    pub fn set_stderr(&mut self, output: Output)
-        ensures { self.new ≡ with_stderr output self.old }
-    {
-        self.stderr = output;
-    }
-
-    /// A call: on one of the guest's outputs; else on the shared input, on the stream that the
-    /// guest reads, or on a closed one.
+    /// A call, whose guest has this number: the reply to it, and what follows of that.
     pub fn call(
         &mut self,
         alloc: Global,
+        guest: u32,
         call: &Call,
         core: &mut StdinCore,
         streams: &mut Streams,
     ) -> Result<Reply, OutOfMemory>
-        ensures done { IfOk result (λ reply. record { reply = reply; guest = self.new; shared = core.new; streams = streams.new } ≡ answer_to the_rules call.now self.old core.old streams.old) }
+        ensures done { IfOk result (λ reply. record { reply = reply; guest = self.new; shared = core.new; streams = streams.new } ≡ answer_by self.old.ended the_rules call.now guest self.old core.old streams.old) }
         ensures err { OnErr result ((self.new ≡ self.old) × (core.new ≡ core.old) × (streams.new ≡ streams.old)) }
     {
-        if self.state.has_ended() {
-            return Ok(self.state.call_ended());
+        if self.ended {
+            self.was_called = true;
+            return Ok(Reply::Ended);
         }
-        match self.state.sending(call) {
-            Some((Standard::Output, it)) => streams.send(alloc, &mut self.state, it, &self.stdout),
-            Some((Standard::Error, it)) => streams.send(alloc, &mut self.state, it, &self.stderr),
-            None => match &self.input {
-                Input::Shared => self.state.call(alloc, call, core),
-                Input::Empty | Input::Closed => self.state.call_closed(alloc, call),
-                Input::Named(name) => streams.call(alloc, &mut self.state, call, name.as_bytes()),
+        let reply = self.answer(alloc, guest, call, core, streams)?;
+        self.settle(&reply);
+        Ok(reply)
+    }
+
+    // what a reply leaves of the guest that is told it
+    fn settle(&mut self, reply: &Reply)
+        ensures { self.new ≡ left_guest self.old reply.now self.old.own }
+    {
+        self.was_called = true;
+        self.ended = reply.ends();
+        if self.ended {
+            self.own.end();
+        }
+    }
+
+    // by the kind of the call
+    fn answer(
+        &mut self,
+        alloc: Global,
+        guest: u32,
+        call: &Call,
+        core: &mut StdinCore,
+        streams: &mut Streams,
+    ) -> Result<Reply, OutOfMemory>
+        ensures done { IfOk result (λ reply. settled self.old (record { reply = reply; own = self.new.own }) core.new streams.new ≡ answer_to the_rules call.now guest self.old core.old streams.old) }
+        ensures rest { self.new ≡ record self.old { own = self.new.own } }
+        ensures err { OnErr result ((self.new ≡ self.old) × (core.new ≡ core.old) × (streams.new ≡ streams.old)) }
+    {
+        match call {
+            Call::Open { stream, access } => {
+                let entry = opened(&self.settings.input, *stream, *access);
+                self.own.act(Deed::Make {
+                    entry,
+                    parent: None,
+                })
+            }
+            Call::On { number, call } => {
+                let at = Owner {
+                    guest,
+                    number: *number,
+                };
+                self.answer_at(alloc, call, at, core, streams)
+            }
+            Call::Drop { number } => Ok(self.own.drop(*number)),
+            Call::Own(call) => {
+                let deed = self.owned(call);
+                self.own.act(deed.apart())
+            }
+        }
+    }
+
+    // by the entry at the number
+    fn answer_at(
+        &mut self,
+        alloc: Global,
+        call: &EntryCall,
+        at: Owner,
+        core: &mut StdinCore,
+        streams: &mut Streams,
+    ) -> Result<Reply, OutOfMemory>
+        ensures done { IfOk result (λ reply. settled self.old (record { reply = reply; own = self.new.own }) core.new streams.new ≡ answer_at the_rules call.now at (entry_at self.old.own at.number) self.old core.old streams.old) }
+        ensures rest { self.new ≡ record self.old { own = self.new.own } }
+        ensures err { OnErr result ((self.new ≡ self.old) × (core.new ≡ core.old) × (streams.new ≡ streams.old)) }
+    {
+        match self.own.entry(at.number) {
+            None => Ok(Reply::Told(Told::Trap(TrapText::ResourceNotPresent))),
+            Some(Entry::Shared(entry)) => {
+                let deed = shared::asked(alloc, core, call, at, entry)?;
+                self.own.act(deed)
+            }
+            Some(Entry::Stream { stream, entry }) => {
+                let deed = self.on_stream(alloc, call, at, stream, entry, streams)?;
+                self.own.act(deed)
+            }
+        }
+    }
+
+    // on the stream that a standard stream of the guest is
+    fn on_stream(
+        &self,
+        alloc: Global,
+        call: &EntryCall,
+        at: Owner,
+        stream: Standard,
+        entry: StreamEntry,
+        streams: &mut Streams,
+    ) -> Result<Deed, OutOfMemory>
+        ensures deed { IfOk result (λ deed. deed ≡ apart (stream_doing call.now at stream entry self.now.settings streams.old).deed) }
+        ensures left { OnOk result (streams.new ≡ (stream_doing call.now at stream entry self.now.settings streams.old).left) }
+        ensures made { IfOk result (λ deed. IsMake deed → streams.new ≡ streams.old) }
+        ensures err { OnErr result (streams.new ≡ streams.old) }
+    {
+        let deed = match stream {
+            Standard::Input => streams.call(alloc, &self.settings.input, call, at, entry)?,
+            Standard::Output => streams.send(alloc, &self.settings.stdout, call, stream, at, entry)?,
+            Standard::Error => streams.send(alloc, &self.settings.stderr, call, stream, at, entry)?,
+        };
+        Ok(deed.apart())
+    }
+
+    // a call on what the guest owns alone
+    fn owned(&self, call: &OwnCall) -> Deed
+        ensures { result ≡ owned call.now self.now.settings self.now.own }
+    {
+        let _ = &self;
+        match call {
+            OwnCall::Exit { status } => Deed::Tell(Told::Exit(exit_status(*status))),
+            OwnCall::ExitCode { code } => Deed::Tell(Told::Exit(*code)),
+        }
+    }
+}
+
+fn copy_output(alloc: Global, output: &Output) -> Result<Output, OutOfMemory>
+    ensures { IfOk result (λ copy. copy ≡ output.now) }
+{
+    match output {
+        Output::Empty => Ok(Output::Empty),
+        Output::Sink => Ok(Output::Sink),
+        Output::Closed => Ok(Output::Closed),
+        Output::Named(name) => {
+            let name = name.copy(alloc)?;
+            Ok(Output::Named(name))
+        }
+    }
+}
+
+// the entry of a standard stream that a guest opens
+fn opened(input: &Input, stream: Standard, access: Access) -> Entry
+    ensures { result ≡ opened input.now stream access }
+{
+    match (input, stream) {
+        (Input::Shared, Standard::Input) => match access {
+            Access::Plain => Entry::Shared(SharedEntry::Reader),
+            Access::Polled => Entry::Shared(SharedEntry::Polled(Wait::new())),
+        },
+        _ => Entry::Stream {
+            stream,
+            entry: match access {
+                Access::Plain => StreamEntry::Plain,
+                Access::Polled => StreamEntry::Polled,
             },
-        }
+        },
+    }
+}
+
+fn exit_status(status: ExitStatus) -> u8
+    ensures { result ≡ exit_status status }
+{
+    match status {
+        ExitStatus::Ok => 0,
+        ExitStatus::Err => 1,
     }
 }

@@ -1,170 +1,98 @@
-ghost use Rattle.std.specs.Prelude.{◌≡◌, IfOk, OnErr};
+ghost use Rattle.std.specs.Prelude.{◌≡◌, IfOk, OnOk, OnErr};
+ghost use Rattle.wasi_host.specs.InStreams.{input_read, input_skip, input_poll_read, after_input_read};
+ghost use Rattle.wasi_host.specs.Calls.{called, result_told, poll_told};
+ghost use Rattle.wasi_session.specs.Makes.{IsMake};
 
-use crate::answers::told_count;
-use crate::room::room_of;
+use crate::answers::{mistaken, told_count};
 use bytes::Bytes;
 use std::alloc::Global;
 use wasi_base::{OutOfMemory, Polled, StreamError};
-use wasi_host::{Piece, Reply, Stream};
-use wasi_stdin::{Answer, PolledRead, StdinCore, Wait};
+use wasi_host::{Deed, Entry, InStream, Owner, StreamEntry};
+use wasi_reply::{Piece, Told};
+use wasi_script::{EntryCall, Standard};
 use wasi_streams::InputStream;
 
-/// What a guest reads by its entries: the shared input, or a stream.
-pub trait StandardInput {
-    ghost use Rattle.wasi_host.specs.Calls.{Manner};
-
-    ghost manner: { Manner Self };
-
-    /// A read. Want of memory leaves the input as it was.
-    fn read(&mut self, alloc: Global, size: u64) -> Result<Reply, OutOfMemory>
-        ensures reply { IfOk result (λ reply. reply ≡ manner.read self.old size) }
-        ensures after { IfOk result (λ reply. self.new ≡ manner.after_read self.old size) }
-        ensures err { OnErr result (self.new ≡ self.old) };
-
-    /// A read whose count of bytes alone is answered. It takes no memory.
-    fn skip(&mut self, size: u64) -> Reply
-        ensures reply { result ≡ manner.skip self.old size }
-        ensures after { self.new ≡ manner.after_read self.old size };
-
-    /// One poll, by this wait.
-    fn poll_read(&mut self, alloc: Global, wait: &mut Wait, room: u64) -> Result<Reply, OutOfMemory>
-        ensures reply { IfOk result (λ reply. reply ≡ manner.poll self.old wait.old room) }
-        ensures after { IfOk result (λ reply. self.new ≡ manner.after_poll self.old wait.old room) }
-        ensures wait { IfOk result (λ reply. wait.new ≡ manner.wait_after_poll self.old wait.old room) }
-        ensures err { OnErr result ((self.new ≡ self.old) × (wait.new ≡ wait.old)) };
-
-    /// Whether a read would be told something.
-    fn ready(&mut self) -> bool
-        ensures answer { result ≡ manner.ready self.old }
-        ensures after { self.new ≡ manner.after_ready self.old };
-
-    /// `ready`, which waits for one delivery where it is false.
-    fn block(&mut self, wait: &mut Wait) -> bool
-        ensures answer { result ≡ manner.block self.old wait.old }
-        ensures after { self.new ≡ manner.after_block self.old wait.old }
-        ensures wait { wait.new ≡ manner.wait_after_block self.old wait.old };
-}
-
-impl StandardInput for StdinCore {
-    ghost use Rattle.wasi_host.specs.Calls.{shared_manner};
-
-    ghost manner = { shared_manner };
-
-    fn read(&mut self, alloc: Global, size: u64) -> Result<Reply, OutOfMemory> {
-        let mut bytes = room_of(alloc, self.would_give(size))?;
-        match StdinCore::read(self, size, &mut bytes) {
-            Answer::Bytes(count) => {
-                bytes.truncate(count);
-                Ok(Reply::Bytes(Piece::new(bytes)))
-            }
-            Answer::Closed => Ok(Reply::Closed),
-            Answer::Failed(kind) => Ok(Reply::Failed(kind)),
+/// What a call on an entry of an input asks to be done. Out of memory leaves the input as it was,
+/// and a new entry is made of an input that is as it was.
+pub fn called(
+    alloc: Global,
+    stream: &mut InStream,
+    call: &EntryCall,
+    at: Owner,
+    entry: StreamEntry,
+) -> Result<Deed, OutOfMemory>
+    ensures deed { IfOk result (λ deed. deed ≡ (called call.now at entry stream.old).deed) }
+    ensures left { OnOk result (stream.new ≡ (called call.now at entry stream.old).left) }
+    ensures made { IfOk result (λ deed. IsMake deed → stream.new ≡ stream.old) }
+    ensures err { OnErr result (stream.new ≡ stream.old) }
+{
+    match (call, entry) {
+        (EntryCall::Read { size }, StreamEntry::Plain) => {
+            Ok(Deed::Tell(read(alloc, stream, *size)?))
         }
-    }
-
-    fn skip(&mut self, size: u64) -> Reply {
-        match StdinCore::skip(self, size) {
-            Answer::Bytes(count) => Reply::Count(count as u64),
-            Answer::Closed => Reply::Closed,
-            Answer::Failed(kind) => Reply::Failed(kind),
+        (EntryCall::Skip { size }, StreamEntry::Plain) => Ok(Deed::Tell(skip(stream, *size))),
+        (EntryCall::Subscribe, StreamEntry::Plain) => Ok(Deed::Make {
+            entry: Entry::Stream {
+                stream: Standard::Input,
+                entry: StreamEntry::Pollable,
+            },
+            parent: Some(at.number),
+        }),
+        (EntryCall::PollRead { room }, StreamEntry::Polled) => {
+            Ok(Deed::Tell(poll_read(alloc, stream, *room)?))
         }
-    }
-
-    fn poll_read(
-        &mut self,
-        alloc: Global,
-        wait: &mut Wait,
-        room: u64,
-    ) -> Result<Reply, OutOfMemory> {
-        let mut bytes = room_of(alloc, self.would_give(room))?;
-        match StdinCore::poll_read(self, wait, room, &mut bytes) {
-            PolledRead::Bytes(count) => {
-                bytes.truncate(count);
-                Ok(Reply::Bytes(Piece::new(bytes)))
-            }
-            PolledRead::Pending => Ok(Reply::Pending),
-            PolledRead::Failed(kind) => Ok(Reply::Failed(kind)),
+        (EntryCall::Ready | EntryCall::Block, StreamEntry::Pollable) => {
+            Ok(Deed::Tell(Told::Truth(true)))
         }
-    }
-
-    fn ready(&mut self) -> bool {
-        StdinCore::ready(self)
-    }
-
-    fn block(&mut self, wait: &mut Wait) -> bool {
-        StdinCore::block(self, wait)
+        _ => Ok(mistaken()),
     }
 }
 
-impl StandardInput for Stream {
-    ghost use Rattle.wasi_host.specs.Calls.{stream_manner};
-
-    ghost manner = { stream_manner };
-
-    fn read(&mut self, alloc: Global, size: u64) -> Result<Reply, OutOfMemory> {
-        let answer = match self {
-            Stream::Pipe(pipe) => pipe.read(alloc, size),
-            Stream::InFile(file) => file.read(alloc, size),
-            Stream::Closed
-            | Stream::Sink
-            | Stream::OutPipe(_)
-            | Stream::OutFile(_)
-            | Stream::Stdio(_) => Err(StreamError::Closed),
-        };
-        match answer {
-            Ok(bytes) => Ok(Reply::Bytes(Piece::shared(bytes))),
-            Err(StreamError::Closed) => Ok(Reply::Closed),
-            Err(StreamError::LastOperationFailed(kind)) => Ok(Reply::Failed(kind)),
-            Err(StreamError::Trap(text)) => Ok(Reply::Trap(text)),
-            Err(StreamError::OutOfMemory) => Err(OutOfMemory),
-        }
+fn read(alloc: Global, stream: &mut InStream, size: u64) -> Result<Told, OutOfMemory>
+    ensures told { IfOk result (λ told. told ≡ result_told Told.Bytes (input_read stream.old size)) }
+    ensures left { OnOk result (stream.new ≡ after_input_read stream.old size) }
+    ensures err { OnErr result (stream.new ≡ stream.old) }
+{
+    let answer = match stream {
+        InStream::Pipe(pipe) => pipe.read(alloc, size),
+        InStream::File(file) => file.read(alloc, size),
+        InStream::Closed => Err(StreamError::Closed),
+    };
+    match answer {
+        Ok(bytes) => Ok(Told::Bytes(Piece::shared(bytes))),
+        Err(StreamError::Closed) => Ok(Told::Closed),
+        Err(StreamError::LastOperationFailed(kind)) => Ok(Told::Failed(kind)),
+        Err(StreamError::Trap(text)) => Ok(Told::Trap(text)),
+        Err(StreamError::OutOfMemory) => Err(OutOfMemory),
     }
+}
 
-    fn skip(&mut self, size: u64) -> Reply {
-        let answer = match self {
-            Stream::Pipe(pipe) => pipe.skip(size),
-            Stream::InFile(file) => file.skip(size),
-            Stream::Closed
-            | Stream::Sink
-            | Stream::OutPipe(_)
-            | Stream::OutFile(_)
-            | Stream::Stdio(_) => Err(StreamError::Closed),
-        };
-        told_count(answer)
-    }
+fn skip(stream: &mut InStream, size: u64) -> Told
+    ensures told { result ≡ result_told Told.Count (input_skip stream.old size) }
+    ensures left { stream.new ≡ after_input_read stream.old size }
+{
+    let answer = match stream {
+        InStream::Pipe(pipe) => pipe.skip(size),
+        InStream::File(file) => file.skip(size),
+        InStream::Closed => Err(StreamError::Closed),
+    };
+    told_count(answer)
+}
 
-    fn poll_read(
-        &mut self,
-        alloc: Global,
-        wait: &mut Wait,
-        room: u64,
-    ) -> Result<Reply, OutOfMemory> {
-        let _ = &wait;
-        let answer = match self {
-            Stream::Pipe(pipe) => pipe.poll_read(room),
-            Stream::InFile(file) => file.poll_read(alloc, room),
-            Stream::Closed
-            | Stream::Sink
-            | Stream::OutPipe(_)
-            | Stream::OutFile(_)
-            | Stream::Stdio(_) => Ok(Polled::Ready(Bytes::new())),
-        };
-        match answer {
-            Ok(Polled::Pending) => Ok(Reply::Pending),
-            Ok(Polled::Ready(bytes)) => Ok(Reply::Bytes(Piece::shared(bytes))),
-            Ok(Polled::Failed(kind)) => Ok(Reply::Failed(kind)),
-            Err(OutOfMemory) => Err(OutOfMemory),
-        }
-    }
-
-    fn ready(&mut self) -> bool {
-        let _ = &self;
-        true
-    }
-
-    fn block(&mut self, wait: &mut Wait) -> bool {
-        let _ = &self;
-        let _ = &wait;
-        true
+fn poll_read(alloc: Global, stream: &mut InStream, room: u64) -> Result<Told, OutOfMemory>
+    ensures told { IfOk result (λ told. told ≡ poll_told Told.Bytes (input_poll_read stream.old room)) }
+    ensures left { OnOk result (stream.new ≡ after_input_read stream.old room) }
+    ensures err { OnErr result (stream.new ≡ stream.old) }
+{
+    let answer = match stream {
+        InStream::Pipe(pipe) => pipe.poll_read(room),
+        InStream::File(file) => file.poll_read(alloc, room),
+        InStream::Closed => Ok(Polled::Ready(Bytes::new())),
+    };
+    match answer {
+        Ok(Polled::Pending) => Ok(Told::Pending),
+        Ok(Polled::Ready(bytes)) => Ok(Told::Bytes(Piece::shared(bytes))),
+        Ok(Polled::Failed(kind)) => Ok(Told::Failed(kind)),
+        Err(OutOfMemory) => Err(OutOfMemory),
     }
 }

@@ -11,11 +11,10 @@ mod read;
 mod room;
 mod run;
 mod session;
-mod state;
+mod shared;
 mod streams;
 #[cfg(test)]
 mod tests;
-mod waits;
 mod world;
 
 pub use program::run_program;

@@ -1,102 +1,123 @@
-ghost use Rattle.std.specs.Prelude.{◌≡◌, IfOk, OnErr};
-ghost use Rattle.wasi_host.specs.Streams.{output_check_write, output_write, after_output_write, output_flush, after_output_flush, output_poll_write, after_output_poll_write, output_poll_flush};
-ghost use Rattle.wasi_host.specs.Calls.{sent, count_reply, done_reply, poll_count_reply, poll_done_reply};
+ghost use Rattle.std.specs.Prelude.{◌≡◌, IfOk, OnOk, OnErr};
+ghost use Rattle.wasi_host.specs.OutStreams.{output_check_write, output_write, after_output_write, output_flush, after_output_flush, output_poll_write, after_output_poll_write, output_poll_flush};
+ghost use Rattle.wasi_host.specs.Calls.{sent, result_told, poll_told, is_done};
+ghost use Rattle.wasi_session.specs.Makes.{IsMake};
 
-use crate::answers::{told_count, told_done, told_polled_count, told_polled_done};
+use crate::answers::{mistaken, told_count, told_done, told_polled_count, told_polled_done};
 use crate::room::shared_bytes;
 use bytes::Bytes;
 use std::alloc::Global;
 use wasi_base::{OutOfMemory, Polled, StreamError};
-use wasi_host::{Reply, Stream};
-use wasi_script::OutputCall;
+use wasi_host::{Deed, Entry, OutStream, Owner, StreamEntry};
+use wasi_reply::Told;
+use wasi_script::{EntryCall, Standard};
 use wasi_streams::OutputStream;
 
-/// A call on an output. Want of memory leaves the output as it was.
-pub fn send(stream: &mut Stream, alloc: Global, call: &OutputCall) -> Result<Reply, OutOfMemory>
-    ensures reply { IfOk result (λ reply. reply ≡ (sent call.now stream.old).reply) }
-    ensures left { IfOk result (λ reply. stream.new ≡ (sent call.now stream.old).left) }
+/// What a call on an entry of an output asks to be done. Out of memory leaves the output as it
+/// was, and a new entry is made of an output that is as it was.
+pub fn sent(
+    alloc: Global,
+    stream: &mut OutStream,
+    call: &EntryCall,
+    to: Standard,
+    at: Owner,
+    entry: StreamEntry,
+) -> Result<Deed, OutOfMemory>
+    ensures deed { IfOk result (λ deed. deed ≡ (sent call.now to at entry stream.old).deed) }
+    ensures left { OnOk result (stream.new ≡ (sent call.now to at entry stream.old).left) }
+    ensures made { IfOk result (λ deed. IsMake deed → stream.new ≡ stream.old) }
     ensures err { OnErr result (stream.new ≡ stream.old) }
 {
-    match call {
-        OutputCall::CheckWrite => Ok(check_write(stream)),
-        OutputCall::Write { bytes } => {
+    match (call, entry) {
+        (EntryCall::CheckWrite, StreamEntry::Plain) => Ok(Deed::Tell(check_write(stream))),
+        (EntryCall::Write { bytes }, StreamEntry::Plain) => {
             let bytes = shared_bytes(alloc, bytes)?;
-            Ok(write(stream, bytes))
+            Ok(Deed::Tell(write(stream, bytes)))
         }
-        OutputCall::Flush => Ok(flush(stream)),
-        OutputCall::PollWrite { bytes } => {
+        (EntryCall::Flush, StreamEntry::Plain) => Ok(Deed::Tell(flush(stream))),
+        (EntryCall::Subscribe, StreamEntry::Plain) => Ok(Deed::Make {
+            entry: Entry::Stream {
+                stream: to,
+                entry: StreamEntry::Pollable,
+            },
+            parent: Some(at.number),
+        }),
+        (EntryCall::PollWrite { bytes }, StreamEntry::Polled) => {
             let bytes = shared_bytes(alloc, bytes)?;
-            Ok(poll_write(stream, bytes.as_slice()))
+            Ok(Deed::Tell(poll_write(stream, bytes.as_slice())))
         }
-        OutputCall::PollFlush => Ok(poll_flush(stream)),
+        (EntryCall::PollFlush, StreamEntry::Polled) => Ok(Deed::Tell(poll_flush(stream))),
+        (EntryCall::Ready | EntryCall::Block, StreamEntry::Pollable) => {
+            Ok(Deed::Tell(Told::Truth(true)))
+        }
+        _ => Ok(mistaken()),
     }
 }
 
-fn check_write(stream: &mut Stream) -> Reply
-    ensures reply { result ≡ count_reply (output_check_write stream.old) }
+fn check_write(stream: &mut OutStream) -> Told
+    ensures told { result ≡ result_told Told.Count (output_check_write stream.old) }
     ensures same { stream.new ≡ stream.old }
 {
     let answer = match stream {
-        Stream::Sink => Ok(u64::MAX),
-        Stream::OutPipe(pipe) => pipe.check_write(),
-        Stream::OutFile(file) => file.check_write(),
-        Stream::Stdio(output) => output.check_write(),
-        Stream::Closed | Stream::Pipe(_) | Stream::InFile(_) => Err(StreamError::Closed),
+        OutStream::Closed => Err(StreamError::Closed),
+        OutStream::Sink => Ok(u64::MAX),
+        OutStream::Pipe(pipe) => pipe.check_write(),
+        OutStream::File(file) => file.check_write(),
+        OutStream::Stdio(output) => output.check_write(),
     };
     told_count(answer)
 }
 
-fn write(stream: &mut Stream, bytes: Bytes) -> Reply
-    ensures reply { result ≡ done_reply (output_write stream.old bytes) }
+fn write(stream: &mut OutStream, bytes: Bytes) -> Told
+    ensures told { result ≡ result_told is_done (output_write stream.old bytes) }
     ensures left { stream.new ≡ after_output_write stream.old bytes }
 {
     let answer = match stream {
-        Stream::Sink => Ok(()),
-        Stream::OutPipe(pipe) => pipe.write(bytes),
-        Stream::OutFile(file) => file.write(bytes),
-        Stream::Stdio(output) => output.write(bytes),
-        Stream::Closed | Stream::Pipe(_) | Stream::InFile(_) => Err(StreamError::Closed),
+        OutStream::Closed => Err(StreamError::Closed),
+        OutStream::Sink => Ok(()),
+        OutStream::Pipe(pipe) => pipe.write(bytes),
+        OutStream::File(file) => file.write(bytes),
+        OutStream::Stdio(output) => output.write(bytes),
     };
     told_done(answer)
 }
 
-fn flush(stream: &mut Stream) -> Reply
-    ensures reply { result ≡ done_reply (output_flush stream.old) }
+fn flush(stream: &mut OutStream) -> Told
+    ensures told { result ≡ result_told is_done (output_flush stream.old) }
     ensures left { stream.new ≡ after_output_flush stream.old }
 {
     let answer = match stream {
-        Stream::Sink => Ok(()),
-        Stream::OutPipe(pipe) => pipe.flush(),
-        Stream::OutFile(file) => file.flush(),
-        Stream::Stdio(output) => output.flush(),
-        Stream::Closed | Stream::Pipe(_) | Stream::InFile(_) => Err(StreamError::Closed),
+        OutStream::Closed => Err(StreamError::Closed),
+        OutStream::Sink => Ok(()),
+        OutStream::Pipe(pipe) => pipe.flush(),
+        OutStream::File(file) => file.flush(),
+        OutStream::Stdio(output) => output.flush(),
     };
     told_done(answer)
 }
 
-fn poll_write(stream: &mut Stream, piece: &[u8]) -> Reply
-    ensures reply { result ≡ poll_count_reply (output_poll_write stream.old piece.now) }
+fn poll_write(stream: &mut OutStream, piece: &[u8]) -> Told
+    ensures told { result ≡ poll_told Told.Count (output_poll_write stream.old piece.now) }
     ensures left { stream.new ≡ after_output_poll_write stream.old piece.now }
 {
     let answer = match stream {
-        Stream::Sink => Polled::Ready(piece.len() as u64),
-        Stream::OutPipe(pipe) => Polled::Ready(pipe.poll_write(piece)),
-        Stream::OutFile(file) => file.poll_write(piece),
-        Stream::Stdio(output) => output.poll_write(piece),
-        Stream::Closed | Stream::Pipe(_) | Stream::InFile(_) => Polled::Ready(0),
+        OutStream::Closed => Polled::Ready(0),
+        OutStream::Sink => Polled::Ready(piece.len() as u64),
+        OutStream::Pipe(pipe) => Polled::Ready(pipe.poll_write(piece)),
+        OutStream::File(file) => file.poll_write(piece),
+        OutStream::Stdio(output) => output.poll_write(piece),
     };
     told_polled_count(answer)
 }
 
-fn poll_flush(stream: &mut Stream) -> Reply
-    ensures reply { result ≡ poll_done_reply (output_poll_flush stream.old) }
+fn poll_flush(stream: &mut OutStream) -> Told
+    ensures told { result ≡ poll_told is_done (output_poll_flush stream.old) }
     ensures left { stream.new ≡ after_output_flush stream.old }
 {
     let answer = match stream {
-        Stream::OutFile(file) => file.poll_flush(),
-        Stream::Stdio(output) => output.poll_flush(),
-        Stream::Closed | Stream::Sink | Stream::Pipe(_) | Stream::InFile(_) | Stream::OutPipe(_) =>
-            Polled::Ready(()),
+        OutStream::File(file) => file.poll_flush(),
+        OutStream::Stdio(output) => output.poll_flush(),
+        OutStream::Closed | OutStream::Sink | OutStream::Pipe(_) => Polled::Ready(()),
     };
     told_polled_done(answer)
 }

@@ -6,7 +6,7 @@ ghost use Rattle.wasi_session.specs.Makes.{IsMake};
 use std::alloc::Global;
 use std::marker::Model;
 use wasi_base::{OutOfMemory, TrapText};
-use wasi_host::{Deed, Entry};
+use wasi_host::{Deed, Entry, SharedEntry};
 use wasi_reply::{Reply, Told};
 use wasi_table::{ResourceTable, TableError};
 
@@ -77,7 +77,11 @@ impl Own {
         let narrow = self.narrow(number)?;
         let kind = self.table.kind_of(narrow).ok()?;
         match self.table.get(narrow, kind) {
-            Ok(entry) => Some(*entry),
+            Ok(Entry::Shared(entry)) => Some(Entry::Shared(*entry)),
+            Ok(Entry::Stream { stream, entry }) => Some(Entry::Stream {
+                stream: *stream,
+                entry: *entry,
+            }),
             Err(_) => None,
         }
     }
@@ -190,6 +194,8 @@ impl Own {
         ensures done { IfOk result (λ reply. record { reply = reply; own = self.new } ≡ made entry None self.old) }
         ensures err { OnErr result (self.new ≡ self.old) }
     {
+        // The checker is told of the type within by its name.
+        let _shared = matches!(entry, Entry::Shared(SharedEntry::Reader));
         match self.table.push(entry) {
             Ok(number) => Ok(Reply::Handle(number)),
             Err(TableError::OutOfMemory) => Err(OutOfMemory),
@@ -203,6 +209,8 @@ impl Own {
         ensures done { IfOk result (λ reply. record { reply = reply; own = self.new } ≡ made entry (Some parent) self.old) }
         ensures err { OnErr result (self.new ≡ self.old) }
     {
+        // The checker is told of the type within by its name.
+        let _shared = matches!(entry, Entry::Shared(SharedEntry::Reader));
         match self.table.push_child(entry, parent) {
             Ok(number) => Ok(Reply::Handle(number)),
             Err(TableError::OutOfMemory) => Err(OutOfMemory),

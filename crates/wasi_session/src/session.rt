@@ -1,16 +1,17 @@
 ghost use Rattle.std.specs.Prelude.{true, false, ◌≡◌, ◌^◌, ◌-◌, ◌<◌, ◌≤◌, ◌++◌, IfOk, OnOk, OnErr, IsErr, None};
 ghost use Rattle.wasi_base.specs.Causes.{Rose};
 ghost use Rattle.wasi_stdin.specs.Shared.{given_now};
-ghost use Rattle.wasi_host.specs.Reply.{reply_line, OnFault};
+ghost use Rattle.wasi_reply.specs.Reply.{reply_line, OnFault};
 ghost use Rattle.wasi_host.specs.Host.{new_host, IsStep, Fits, reply_to, size_read};
-ghost use Rattle.wasi_host.specs.Transcript.{outputs_of, output_lines};
+ghost use Rattle.wasi_host.specs.Transcript.{outputs_of};
+ghost use Rattle.wasi_reply.specs.Outputs.{output_lines};
 ghost use Rattle.wasi_session.specs.Sitting.{Stopped};
 
 use crate::world::World;
 use std::alloc::Global;
 use std::marker::Model;
 use wasi_base::{OutOfMemory, Source};
-use wasi_host::push_line;
+use wasi_reply::push_line;
 use wasi_script::Line;
 
 /// A session of guests, step by step.

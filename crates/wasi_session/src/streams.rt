@@ -1,136 +1,194 @@
-ghost use Rattle.std.specs.Prelude.{◌≡◌, ◌∷◌, ◌++◌, [], None, OnOk, OnErr, IfOk, length, take};
+ghost use Rattle.std.specs.Prelude.{◌≡◌, ◌∷◌, ◌++◌, [], None, IfOk, OnOk, OnErr, length, take};
 ghost use Rattle.std.specs.Map.{lookup};
 ghost use Rattle.std.specs.Str.{bytes_eq};
-ghost use Rattle.wasi_host.specs.Calls.{stream_manner, call_rule, sent};
-ghost use Rattle.wasi_host.specs.Host.{stream_of, put_stream, stream_to, put_output};
-ghost use Rattle.wasi_host.specs.Transcript.{with_output, outputs_of, output_lines};
-ghost use Rattle.wasi_host.specs.Streams.{taken_of};
-ghost use Rattle.wasi_session.specs.States.{left_state};
+ghost use Rattle.wasi_reply.specs.Outputs.{output_line, output_lines};
+ghost use Rattle.wasi_host.specs.declared.stream.InStream.TheVariants as in_stream;
+ghost use Rattle.wasi_host.specs.declared.stream.OutStream.TheVariants as out_stream;
+ghost use Rattle.wasi_host.specs.Calls.{called, sent};
+ghost use Rattle.wasi_host.specs.Host.{taken_out, put_back};
+ghost use Rattle.wasi_host.specs.Transcript.{outputs_of};
+ghost use Rattle.wasi_session.specs.Makes.{IsMake};
+ghost use Rattle.wasi_session.specs.StreamCalls.{input_doing, output_doing};
 
-use crate::state::State;
+use crate::input::called;
+use crate::output::sent;
 use indexmap::IndexMap;
 use std::alloc::Global;
 use std::marker::Model;
 use wasi_base::OutOfMemory;
-use wasi_host::{Reply, Stream, push_output};
-use wasi_script::{Call, Name, Output, OutputCall};
+use wasi_host::{Deed, InStream, OutStream, Owner, StreamEntry};
+use wasi_reply::push_output;
+use wasi_script::{EntryCall, Input, Name, Output, Standard};
 
-/// The declared streams by their names, in order of declaration.
+/// The declared streams by their names, each kind in order of declaration.
 #[derive(Drop)]
 pub struct Streams {
-    rows: IndexMap<Vec<u8>, Stream>,
+    inputs: IndexMap<Vec<u8>, InStream>,
+    outputs: IndexMap<Vec<u8>, OutStream>,
 }
 
 impl Model for Streams {
-    ghost use Rattle.std.specs.Prelude.{List, ℕ};
-    ghost use Rattle.wasi_host.specs.declared.stream.Stream.{Stream};
+    ghost use Rattle.wasi_host.specs.contracts.stream.InStream.{the_row as in_row};
+    ghost use Rattle.wasi_host.specs.contracts.stream.OutStream.{the_row as out_row};
+    ghost use Rattle.wasi_host.specs.Host.{Streams};
+    ghost use Rattle.wasi_host.specs.Codes.{streams_code};
     ghost use Rattle.wasi_session.specs.Rows.{rows_of};
 
-    ghost Value = { List (List ℕ × Stream) };
+    ghost Value = { Streams };
 
-    ghost view = { λ s. rows_of s.rows.entries };
+    ghost coded = { streams_code in_row.coded out_row.coded };
+
+    ghost view = { λ s. record { inputs = rows_of s.inputs.entries; outputs = rows_of s.outputs.entries } };
 }
 
 impl Streams {
     pub fn new(alloc: Global) -> Streams
-        ensures { result ≡ [] }
+        ensures { result ≡ record { inputs = []; outputs = [] } }
     {
         Streams {
-            rows: IndexMap::new(alloc),
+            inputs: IndexMap::new(alloc),
+            outputs: IndexMap::new(alloc),
         }
     }
 
-    /// A stream of a new name.
-    pub fn add(&mut self, alloc: Global, name: &Name, stream: Stream) -> Result<(), OutOfMemory>
-        requires { lookup (bytes_eq name.now) self.old ≡ None }
-        ensures ok { OnOk result (self.new ≡ self.old ++ (name.now, stream) ∷ []) }
+    /// An input of a new name.
+    pub fn add_input(
+        &mut self,
+        alloc: Global,
+        name: &Name,
+        input: InStream,
+    ) -> Result<(), OutOfMemory>
+        requires { lookup (bytes_eq name.now) self.old.inputs ≡ None }
+        ensures ok { OnOk result (self.new ≡ record self.old { inputs = self.old.inputs ++ (name.now, input) ∷ [] }) }
         ensures err { OnErr result (self.new ≡ self.old) }
     {
         let name = Vec::from_slice(alloc, name.as_bytes())?;
-        self.rows.insert(name, stream)?;
+        self.inputs.insert(name, input)?;
         Ok(())
     }
 
-    /// A call of a guest that reads the stream of this name; a closed one where there is none.
+    /// An output of a new name.
+    pub fn add_output(
+        &mut self,
+        alloc: Global,
+        name: &Name,
+        output: OutStream,
+    ) -> Result<(), OutOfMemory>
+        requires { lookup (bytes_eq name.now) self.old.outputs ≡ None }
+        ensures ok { OnOk result (self.new ≡ record self.old { outputs = self.old.outputs ++ (name.now, output) ∷ [] }) }
+        ensures err { OnErr result (self.new ≡ self.old) }
+    {
+        let name = Vec::from_slice(alloc, name.as_bytes())?;
+        self.outputs.insert(name, output)?;
+        Ok(())
+    }
+
+    /// A call on the input that a guest reads: what it asks to be done.
     pub fn call(
         &mut self,
         alloc: Global,
-        state: &mut State,
-        call: &Call,
-        name: &[u8],
-    ) -> Result<Reply, OutOfMemory>
-        ensures reply { IfOk result (λ reply. reply ≡ (call_rule stream_manner call.now state.old.own (stream_of name.now self.old)).reply) }
-        ensures left { IfOk result (λ reply. self.new ≡ put_stream name.now (call_rule stream_manner call.now state.old.own (stream_of name.now self.old)).left self.old) }
-        ensures after { IfOk result (λ reply. state.new ≡ left_state (call_rule stream_manner call.now state.old.own (stream_of name.now self.old)).reply (call_rule stream_manner call.now state.old.own (stream_of name.now self.old)).own) }
-        ensures err { OnErr result ((self.new ≡ self.old) × (state.new ≡ state.old)) }
+        from: &Input,
+        call: &EntryCall,
+        at: Owner,
+        entry: StreamEntry,
+    ) -> Result<Deed, OutOfMemory>
+        ensures deed { IfOk result (λ deed. deed ≡ (input_doing call.now at entry from.now self.old).deed) }
+        ensures left { OnOk result (self.new ≡ (input_doing call.now at entry from.now self.old).left) }
+        ensures made { IfOk result (λ deed. IsMake deed → self.new ≡ self.old) }
+        ensures err { OnErr result (self.new ≡ self.old) }
     {
-        match self.rows.get_mut(name) {
-            Some(stream) => state.call(alloc, call, stream),
-            None => state.call_closed(alloc, call),
+        match from {
+            Input::Named(name) => self.call_named(alloc, name.as_bytes(), call, at, entry),
+            Input::Shared | Input::Empty | Input::Closed => {
+                let mut closed = InStream::Closed;
+                called(alloc, &mut closed, call, at, entry)
+            }
         }
     }
 
-    /// A call of a guest on one of its outputs.
+    // the input of this name; one at its end where there is none
+    fn call_named(
+        &mut self,
+        alloc: Global,
+        name: &[u8],
+        call: &EntryCall,
+        at: Owner,
+        entry: StreamEntry,
+    ) -> Result<Deed, OutOfMemory>
+        ensures deed { IfOk result (λ deed. deed ≡ (called call.now at entry (taken_out in_stream.Closed name.now self.old.inputs)).deed) }
+        ensures left { OnOk result (self.new ≡ record self.old { inputs = put_back name.now (called call.now at entry (taken_out in_stream.Closed name.now self.old.inputs)).left self.old.inputs }) }
+        ensures made { IfOk result (λ deed. IsMake deed → self.new ≡ self.old) }
+        ensures err { OnErr result (self.new ≡ self.old) }
+    {
+        match self.inputs.get_mut(name) {
+            Some(stream) => called(alloc, stream, call, at, entry),
+            None => {
+                let mut closed = InStream::Closed;
+                called(alloc, &mut closed, call, at, entry)
+            }
+        }
+    }
+
+    /// A call on an output of a guest: what it asks to be done.
     pub fn send(
         &mut self,
         alloc: Global,
-        state: &mut State,
-        call: &OutputCall,
-        output: &Output,
-    ) -> Result<Reply, OutOfMemory>
-        ensures reply { IfOk result (λ reply. reply ≡ (sent call.now (stream_to output.now self.old)).reply) }
-        ensures left { IfOk result (λ reply. self.new ≡ put_output output.now (sent call.now (stream_to output.now self.old)).left self.old) }
-        ensures after { IfOk result (λ reply. state.new ≡ left_state (sent call.now (stream_to output.now self.old)).reply state.old.own) }
-        ensures err { OnErr result ((self.new ≡ self.old) × (state.new ≡ state.old)) }
+        to: &Output,
+        call: &EntryCall,
+        which: Standard,
+        at: Owner,
+        entry: StreamEntry,
+    ) -> Result<Deed, OutOfMemory>
+        ensures deed { IfOk result (λ deed. deed ≡ (output_doing call.now which at entry to.now self.old).deed) }
+        ensures left { OnOk result (self.new ≡ (output_doing call.now which at entry to.now self.old).left) }
+        ensures made { IfOk result (λ deed. IsMake deed → self.new ≡ self.old) }
+        ensures err { OnErr result (self.new ≡ self.old) }
     {
-        match output {
-            Output::Empty | Output::Sink => {
-                let mut sink = Stream::Sink;
-                state.send(alloc, call, &mut sink)
+        match to {
+            Output::Named(name) => self.send_named(alloc, name.as_bytes(), call, which, at, entry),
+            Output::Closed => {
+                let mut closed = OutStream::Closed;
+                sent(alloc, &mut closed, call, which, at, entry)
             }
-            Output::Closed => state.send_closed(alloc, call),
-            Output::Named(name) => self.send_to(alloc, state, call, name.as_bytes()),
+            Output::Empty | Output::Sink => {
+                let mut sink = OutStream::Sink;
+                sent(alloc, &mut sink, call, which, at, entry)
+            }
         }
     }
 
     // the output of this name; a closed one where there is none
-    fn send_to(
+    fn send_named(
         &mut self,
         alloc: Global,
-        state: &mut State,
-        call: &OutputCall,
         name: &[u8],
-    ) -> Result<Reply, OutOfMemory>
-        ensures reply { IfOk result (λ reply. reply ≡ (sent call.now (stream_of name.now self.old)).reply) }
-        ensures left { IfOk result (λ reply. self.new ≡ put_stream name.now (sent call.now (stream_of name.now self.old)).left self.old) }
-        ensures after { IfOk result (λ reply. state.new ≡ left_state (sent call.now (stream_of name.now self.old)).reply state.old.own) }
-        ensures err { OnErr result ((self.new ≡ self.old) × (state.new ≡ state.old)) }
+        call: &EntryCall,
+        which: Standard,
+        at: Owner,
+        entry: StreamEntry,
+    ) -> Result<Deed, OutOfMemory>
+        ensures deed { IfOk result (λ deed. deed ≡ (sent call.now which at entry (taken_out out_stream.Closed name.now self.old.outputs)).deed) }
+        ensures left { OnOk result (self.new ≡ record self.old { outputs = put_back name.now (sent call.now which at entry (taken_out out_stream.Closed name.now self.old.outputs)).left self.old.outputs }) }
+        ensures made { IfOk result (λ deed. IsMake deed → self.new ≡ self.old) }
+        ensures err { OnErr result (self.new ≡ self.old) }
     {
-        match self.rows.get_mut(name) {
-            Some(stream) => state.send(alloc, call, stream),
-            None => state.send_closed(alloc, call),
+        match self.outputs.get_mut(name) {
+            Some(stream) => sent(alloc, stream, call, which, at, entry),
+            None => {
+                let mut closed = OutStream::Closed;
+                sent(alloc, &mut closed, call, which, at, entry)
+            }
         }
     }
 
-    /// Appends the line of each declared output, in order. Want of memory may leave a part of them.
+    /// Appends the line of each declared output, in order. Out of memory may leave a part of them.
     pub fn outputs(&self, text: &mut Vec<u8>) -> Result<(), OutOfMemory>
         ensures ok { OnOk result (text.new.items ≡ text.old.items ++ output_lines (outputs_of self.now)) }
         ensures err { OnErr result (take (length text.old.items) text.new.items ≡ text.old.items) }
     {
-        for (name, stream) in self.rows.iter() {
-            push_stream(text, name.as_slice(), stream)?;
+        for (name, stream) in self.outputs.iter() {
+            push_output(text, name.as_slice(), stream.taken())?;
         }
         Ok(())
-    }
-}
-
-// the line of an output, and none of an input
-fn push_stream(text: &mut Vec<u8>, name: &[u8], stream: &Stream) -> Result<(), OutOfMemory>
-    ensures ok { OnOk result (text.new.items ≡ text.old.items ++ output_lines (with_output name.now (taken_of stream.now) [])) }
-    ensures err { OnErr result (text.new.items ≡ text.old.items) }
-{
-    match stream.taken() {
-        Some(taken) => push_output(text, name, taken),
-        None => Ok(()),
     }
 }

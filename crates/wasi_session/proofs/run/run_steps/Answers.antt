@@ -1,8 +1,10 @@
 use Rattle.std.proofs.Common.{◌≡◌, ◌∙◌, ◌++◌, get_or, refl, sym, arith}
 use Rattle.wasi_stdin.specs.Shared.{given_now}
 use Rattle.wasi_script.specs.declared.lines.Line.{Line}
-use Rattle.wasi_host.specs.Transcript.{outputs_of, output_lines}
-use Rattle.wasi_host.specs.Steps.{go_on, stand_on, at_end, names_new, places_step, count_step}
+use Rattle.wasi_reply.specs.Outputs.{output_lines}
+use Rattle.wasi_host.specs.Transcript.{outputs_of}
+use Rattle.wasi_host.specs.lemmas.Steps.{stand_on, names_new, places_step, count_step}
+use Rattle.wasi_session.proofs.LoopFacts.{go_on, at_end}
 use Rattle.wasi_session.proofs.run.run_steps.Goals as goal
 
 pub loop-line-init : goal.loop-line-init

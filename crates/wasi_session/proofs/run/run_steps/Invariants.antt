@@ -1,9 +1,9 @@
 use Rattle.std.proofs.Common.{◌≡◌, ◌≤◌, drop, length, Some}
 use Rattle.wasi_base.specs.Source.{Told}
 use Rattle.wasi_script.specs.Grammar.{AllStand}
-use Rattle.wasi_host.specs.Reply.{text_of_all}
+use Rattle.wasi_reply.specs.Reply.{text_of_all}
 use Rattle.wasi_host.specs.Host.{names_of, new_host, replies, host_end, told_end}
-use Rattle.wasi_host.specs.Steps.{SoFar}
+use Rattle.wasi_session.proofs.LoopFacts.{SoFar}
 use Rattle.wasi_session.proofs.run.run_steps.Given as goal
 
 -- what is told so far, and what the rest tells, are the whole transcript
