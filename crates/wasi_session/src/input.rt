@@ -48,6 +48,19 @@ pub fn called(
     }
 }
 
+/// The same on an input at its end, which no line declares.
+pub fn called_closed(
+    alloc: Global,
+    call: &EntryCall,
+    at: Owner,
+    entry: StreamEntry,
+) -> Result<Deed, OutOfMemory>
+    ensures { IfOk result (λ deed. deed ≡ (called call.now at entry InStream.Closed).deed) }
+{
+    let mut closed = InStream::Closed;
+    called(alloc, &mut closed, call, at, entry)
+}
+
 fn read(alloc: Global, stream: &mut InStream, size: u64) -> Result<Told, OutOfMemory>
     ensures told { IfOk result (λ told. told ≡ result_told Told.Bytes (input_read stream.old size)) }
     ensures left { OnOk result (stream.new ≡ after_input_read stream.old size) }

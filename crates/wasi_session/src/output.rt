@@ -54,6 +54,20 @@ pub fn sent(
     }
 }
 
+/// The same on a closed output, which no line declares.
+pub fn sent_closed(
+    alloc: Global,
+    call: &EntryCall,
+    to: Standard,
+    at: Owner,
+    entry: StreamEntry,
+) -> Result<Deed, OutOfMemory>
+    ensures { IfOk result (λ deed. deed ≡ (sent call.now to at entry OutStream.Closed).deed) }
+{
+    let mut closed = OutStream::Closed;
+    sent(alloc, &mut closed, call, to, at, entry)
+}
+
 fn check_write(stream: &mut OutStream) -> Told
     ensures told { result ≡ result_told Told.Count (output_check_write stream.old) }
     ensures same { stream.new ≡ stream.old }

@@ -10,8 +10,8 @@ ghost use Rattle.wasi_host.specs.Transcript.{outputs_of};
 ghost use Rattle.wasi_session.specs.Makes.{IsMake};
 ghost use Rattle.wasi_session.specs.StreamCalls.{input_doing, output_doing};
 
-use crate::input::called;
-use crate::output::sent;
+use crate::input::{called, called_closed};
+use crate::output::{sent, sent_closed};
 use indexmap::IndexMap;
 use std::alloc::Global;
 use std::marker::Model;
@@ -99,10 +99,7 @@ impl Streams {
     {
         match from {
             Input::Named(name) => self.call_named(alloc, name.as_bytes(), call, at, entry),
-            Input::Shared | Input::Empty | Input::Closed => {
-                let mut closed = InStream::Closed;
-                called(alloc, &mut closed, call, at, entry)
-            }
+            Input::Shared | Input::Empty | Input::Closed => called_closed(alloc, call, at, entry),
         }
     }
 
@@ -122,10 +119,7 @@ impl Streams {
     {
         match self.inputs.get_mut(name) {
             Some(stream) => called(alloc, stream, call, at, entry),
-            None => {
-                let mut closed = InStream::Closed;
-                called(alloc, &mut closed, call, at, entry)
-            }
+            None => called_closed(alloc, call, at, entry),
         }
     }
 
@@ -146,10 +140,7 @@ impl Streams {
     {
         match to {
             Output::Named(name) => self.send_named(alloc, name.as_bytes(), call, which, at, entry),
-            Output::Closed => {
-                let mut closed = OutStream::Closed;
-                sent(alloc, &mut closed, call, which, at, entry)
-            }
+            Output::Closed => sent_closed(alloc, call, which, at, entry),
             Output::Empty | Output::Sink => {
                 let mut sink = OutStream::Sink;
                 sent(alloc, &mut sink, call, which, at, entry)
@@ -174,10 +165,7 @@ impl Streams {
     {
         match self.outputs.get_mut(name) {
             Some(stream) => sent(alloc, stream, call, which, at, entry),
-            None => {
-                let mut closed = OutStream::Closed;
-                sent(alloc, &mut closed, call, which, at, entry)
-            }
+            None => sent_closed(alloc, call, which, at, entry),
         }
     }
 

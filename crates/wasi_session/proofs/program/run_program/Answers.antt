@@ -1,6 +1,9 @@
 use Rattle.std.proofs.Common.{arith, ap, length, length-append}
 use Rattle.wasi_session.proofs.program.run_program.Goals as goal
 
+pub returns-in-Ok-clause-done : goal.returns-in-Ok-clause-done
+returns-in-Ok-clause-done g c = λ s t e e' zero. (c.in-Ok.ensures.done s t e e', (c.in-Ok.ensures.script s e).0)
+
 pub returns-in-Err-TooLong-clause-too_long : goal.returns-in-Err-TooLong-clause-too_long
 returns-in-Err-TooLong-clause-too_long g c = λ four. (λ s e. rw c.in-Err-TooLong.field-0-is at (c.in-Err-TooLong.ensures.script s e), c.tell-in-Err-TooLong.ensures.tells)
 

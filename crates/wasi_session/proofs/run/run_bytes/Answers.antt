@@ -4,6 +4,7 @@ use Rattle.wasi_script.specs.Grammar.{AllStand, no_names, parsed, steps_of, IsGo
 use Rattle.wasi_script.specs.Standing.{stand_from}
 use Rattle.wasi_host.specs.Transcript.{transcript, told_after_run}
 use Rattle.wasi_host.specs.lemmas.Headline.{headline}
+use Rattle.wasi_host.specs.lemmas.Isolation.{alone}
 use Rattle.wasi_session.proofs.run.run_bytes.Goals as goal
 
 pub run_steps-requires : goal.run_steps-requires
@@ -20,6 +21,7 @@ returns-in-Ok-write_all-clause-done g c = λ t e.
       out = c.in-Ok-write_all.ensures.ok ∙ ap (with_more (g.K.Sink.taken c.args.out.now)) (c.deref.ensures.value ∙ c.in-Ok-run_steps.ensures.text t e ∙ ap (λ steps. transcript steps t) (sym same));
       stdin = c.in-Ok-run_steps.ensures.told t e ∙ ap (λ steps. Some (told_after_run steps t)) (sym same);
       headline = headline (steps_of (parsed c.args.bytes.now)) t (stand_from no_names 1 (lines_of c.args.bytes.now));
+      alone = λ guest apart. alone guest (steps_of (parsed c.args.bytes.now)) t apart;
     }
 
 pub returns-in-Ok-run_steps-clause-cut_off : goal.returns-in-Ok-run_steps-clause-cut_off

@@ -17,7 +17,7 @@ returns-clause-deed c = elim c.match-get_mut.branch [
   | in-Some w ↦
       rw (w.result-is, ← c.self.view_is, row_there out_stream.Closed c.self.inside.outputs.entries c.args.name.now w.in-Some.stream.now (rw w.in-Some.is at c.get_mut.ensures.value)) w.sent.ensures.deed
   | in-None w ↦
-      rw (w.result-is, ← c.self.view_is, row_none out_stream.Closed c.self.inside.outputs.entries c.args.name.now (rw w.in-None.is at c.get_mut.ensures.value)) w.sent.ensures.deed
+      rw (w.result-is, ← c.self.view_is, row_none out_stream.Closed c.self.inside.outputs.entries c.args.name.now (rw w.in-None.is at c.get_mut.ensures.value)) w.sent_closed.ensures
 ]
 
 pub returns-clause-left : goal.returns-clause-left
@@ -27,7 +27,7 @@ returns-clause-left c =
   | in-Some w ↦
       rw (w.result-is, w.self-inside-is, ← c.self.view_is) (left_there whole out_stream.Closed w.sent.result c.self.inside.outputs.entries _ c.args.name.now w.in-Some.stream.now w.sent.new.stream (λ it. (sent c.args.call.now c.args.which c.args.at c.args.entry it).left) (rw w.in-Some.is at c.get_mut.ensures.value) (c.get_mut.follows.holds w.sent.new.stream).0 w.sent.ensures.left)
   | in-None w ↦
-      rw (w.result-is, w.self-inside-is, ← c.self.view_is) (left_none whole out_stream.Closed w.sent.result c.self.inside.outputs.entries _ c.args.name.now _ (rw w.in-None.is at c.get_mut.ensures.value) (ap (λ rows. rows.entries) c.get_mut.follows.holds-at-none))
+      rw (w.result-is, w.self-inside-is, ← c.self.view_is) (left_none whole out_stream.Closed w.sent_closed.result c.self.inside.outputs.entries _ c.args.name.now _ (rw w.in-None.is at c.get_mut.ensures.value) (ap (λ rows. rows.entries) c.get_mut.follows.holds-at-none))
 ]
 
 pub returns-clause-made : goal.returns-clause-made
@@ -37,7 +37,7 @@ returns-clause-made c =
   | in-Some w ↦
       rw (w.result-is, w.self-inside-is, ← c.self.view_is) (made_there whole out_stream.Closed w.sent.result c.self.inside.outputs.entries _ c.args.name.now IsMake w.in-Some.stream.now w.sent.new.stream (rw w.in-Some.is at c.get_mut.ensures.value) (c.get_mut.follows.holds w.sent.new.stream).0 w.sent.ensures.made)
   | in-None w ↦
-      rw (w.result-is, w.self-inside-is, ← c.self.view_is) (made_none whole out_stream.Closed w.sent.result c.self.inside.outputs.entries _ c.args.name.now IsMake (ap (λ rows. rows.entries) c.get_mut.follows.holds-at-none))
+      rw (w.result-is, w.self-inside-is, ← c.self.view_is) (made_none whole out_stream.Closed w.sent_closed.result c.self.inside.outputs.entries _ c.args.name.now IsMake (ap (λ rows. rows.entries) c.get_mut.follows.holds-at-none))
 ]
 
 pub returns-clause-err : goal.returns-clause-err
@@ -47,5 +47,5 @@ returns-clause-err c =
   | in-Some w ↦
       rw (w.result-is, w.self-inside-is, ← c.self.view_is) (err_there whole out_stream.Closed w.sent.result c.self.inside.outputs.entries _ c.args.name.now w.in-Some.stream.now w.sent.new.stream (rw w.in-Some.is at c.get_mut.ensures.value) (c.get_mut.follows.holds w.sent.new.stream).0 w.sent.ensures.err)
   | in-None w ↦
-      rw (w.result-is, w.self-inside-is, ← c.self.view_is) (err_none whole out_stream.Closed w.sent.result c.self.inside.outputs.entries _ c.args.name.now (ap (λ rows. rows.entries) c.get_mut.follows.holds-at-none))
+      rw (w.result-is, w.self-inside-is, ← c.self.view_is) (err_none whole out_stream.Closed w.sent_closed.result c.self.inside.outputs.entries _ c.args.name.now (ap (λ rows. rows.entries) c.get_mut.follows.holds-at-none))
 ]
