@@ -76,8 +76,11 @@ open_calls =
 abbrev pub on_number : EntryCall → List (List ℕ) → Option Call
 on_number it = with_last number_of (λ number. call.On number it)
 
+abbrev pub number_and : {A : Type 0} → (List ℕ → Option A) → List (List ℕ) → Option (ℕ × A)
+number_and field = with_first number_of (λ number. with_last field (λ value. (number, value)))
+
 abbrev pub on_number_with : {A : Type 0} → (List ℕ → Option A) → (A → EntryCall) → List (List ℕ) → Option Call
-on_number_with field it = with_first number_of (λ number. with_last field (λ value. call.On number (it value)))
+on_number_with field it fields = option_map (λ both. call.On both.0 (it both.1)) (number_and field fields)
 
 abbrev pub entry_calls : List (Form Call)
 entry_calls =

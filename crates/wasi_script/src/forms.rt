@@ -1,9 +1,8 @@
-ghost use Rattle.std.specs.Prelude.{◌≡◌, ℕ, List, ◌∷◌, ◌++◌, IfOk};
-ghost use Rattle.wasi_script.specs.Grammar.{meaning_by, entry_calls, other_calls, other_lines, call_of, line_of, pipe_of, in_file_of, out_pipe_of, sink_of, guest_line_of, setting_of, call_line_of, without_fields, on_number, on_number_with, reading_of, exit_of, input_of, output_of};
+ghost use Rattle.std.specs.Prelude.{◌≡◌, ◌∷◌, ◌++◌, IfOk};
+ghost use Rattle.wasi_script.specs.Grammar.{meaning_by, entry_calls, other_calls, other_lines, call_of, line_of, pipe_of, in_file_of, out_pipe_of, sink_of, guest_line_of, setting_of, call_line_of, without_fields, on_number as on_number_of, number_and, reading_of, exit_of, input_of, output_of};
 ghost use Rattle.wasi_script.specs.Fields.{number_of, capacity_of};
 ghost use Rattle.wasi_script.specs.Bytes.{byte_string_of};
 ghost use Rattle.wasi_script.specs.declared.lines.Call.TheVariants as call;
-ghost use Rattle.wasi_script.specs.declared.lines.EntryCall.{EntryCall};
 ghost use Rattle.wasi_script.specs.declared.lines.OutputDeclaration.TheVariants as output_declaration;
 ghost use Rattle.wasi_script.specs.declared.lines.Setting.TheVariants as setting;
 ghost use Rattle.wasi_script.specs.Reads.{Reads};
@@ -223,71 +222,71 @@ fn parse_entry_call(alloc: Global, name: &[u8], words: Parts) -> Result<Call, Re
     ensures { Reads result (meaning_by (entry_calls ++ other_calls) (name.now ∷ words.entry)) }
 {
     if is(name, b"read") {
-        on_number_with_number(words, |size| EntryCall::Read { size })
+        let (number, size) = number_and_number(words)?;
+        Ok(on(number, EntryCall::Read { size }))
     } else if is(name, b"skip") {
-        on_number_with_number(words, |size| EntryCall::Skip { size })
+        let (number, size) = number_and_number(words)?;
+        Ok(on(number, EntryCall::Skip { size }))
     } else if is(name, b"poll-read") {
-        on_number_with_number(words, |room| EntryCall::PollRead { room })
+        let (number, room) = number_and_number(words)?;
+        Ok(on(number, EntryCall::PollRead { room }))
     } else if is(name, b"check-write") {
-        on_number_alone(words, EntryCall::CheckWrite)
+        on_number(words, EntryCall::CheckWrite)
     } else if is(name, b"write") {
-        on_number_with_bytes(alloc, words, |bytes| EntryCall::Write { bytes })
+        let (number, bytes) = number_and_bytes(alloc, words)?;
+        Ok(on(number, EntryCall::Write { bytes }))
     } else if is(name, b"flush") {
-        on_number_alone(words, EntryCall::Flush)
+        on_number(words, EntryCall::Flush)
     } else if is(name, b"poll-write") {
-        on_number_with_bytes(alloc, words, |bytes| EntryCall::PollWrite { bytes })
+        let (number, bytes) = number_and_bytes(alloc, words)?;
+        Ok(on(number, EntryCall::PollWrite { bytes }))
     } else if is(name, b"poll-flush") {
-        on_number_alone(words, EntryCall::PollFlush)
+        on_number(words, EntryCall::PollFlush)
     } else if is(name, b"subscribe") {
-        on_number_alone(words, EntryCall::Subscribe)
+        on_number(words, EntryCall::Subscribe)
     } else if is(name, b"ready") {
-        on_number_alone(words, EntryCall::Ready)
+        on_number(words, EntryCall::Ready)
     } else if is(name, b"block") {
-        on_number_alone(words, EntryCall::Block)
+        on_number(words, EntryCall::Block)
     } else {
         parse_other_call(name, words).ok_or(Refusal::Invalid)
     }
 }
 
-// a call on a number, and no more
-fn on_number_alone(words: Parts, it: EntryCall) -> Result<Call, Refusal>
-    ensures { Reads result (on_number it words.entry) }
+fn on(number: u64, it: EntryCall) -> Call
+    ensures { result ≡ call.On number it }
+{
+    Call::On { number, call: it }
+}
+
+// a call with no more fields than its entry's number
+fn on_number(words: Parts, it: EntryCall) -> Result<Call, Refusal>
+    ensures { Reads result (on_number_of it words.entry) }
 {
     let word = only(words).ok_or(Refusal::Invalid)?;
     let number = parse_number(word).ok_or(Refusal::Invalid)?;
-    Ok(Call::On { number, call: it })
+    Ok(on(number, it))
 }
 
-// .. and another number
-fn on_number_with_number<F: FnOnce(u64) -> EntryCall>(
-    mut words: Parts,
-    make: F,
-) -> Result<Call, Refusal>
-    requires { F.IsAlwaysCallable make }
-    ensures { (it : ℕ → EntryCall) → ((value : ℕ) → (made : EntryCall) → F.post make value made → made ≡ it value) → Reads result (on_number_with number_of it words.entry) }
+// an entry's number, and a number more
+fn number_and_number(mut words: Parts) -> Result<(u64, u64), Refusal>
+    ensures { Reads result (number_and number_of words.entry) }
 {
     let word = words.next().ok_or(Refusal::Invalid)?;
     let number = parse_number(word).ok_or(Refusal::Invalid)?;
     let word = only(words).ok_or(Refusal::Invalid)?;
     let value = parse_number(word).ok_or(Refusal::Invalid)?;
-    let it = make(value);
-    Ok(Call::On { number, call: it })
+    Ok((number, value))
 }
 
-// .. and bytes
-fn on_number_with_bytes<F: FnOnce(ByteString) -> EntryCall>(
-    alloc: Global,
-    mut words: Parts,
-    make: F,
-) -> Result<Call, Refusal>
-    requires { F.IsAlwaysCallable make }
-    ensures { (it : List ℕ → EntryCall) → ((value : List ℕ) → (made : EntryCall) → F.post make value made → made ≡ it value) → Reads result (on_number_with byte_string_of it words.entry) }
+// an entry's number, and bytes
+fn number_and_bytes(alloc: Global, mut words: Parts) -> Result<(u64, ByteString), Refusal>
+    ensures { Reads result (number_and byte_string_of words.entry) }
 {
     let word = words.next().ok_or(Refusal::Invalid)?;
     let number = parse_number(word).ok_or(Refusal::Invalid)?;
     let bytes = ByteString::read(alloc, only(words).ok_or(Refusal::Invalid)?)?;
-    let it = make(bytes);
-    Ok(Call::On { number, call: it })
+    Ok((number, bytes))
 }
 
 // a call on an entry of any kind, or on none
