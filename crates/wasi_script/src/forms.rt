@@ -1,10 +1,9 @@
 ghost use Rattle.std.specs.Prelude.{◌≡◌, ◌∷◌, ◌++◌, IfOk};
-ghost use Rattle.wasi_script.specs.Grammar.{meaning_by, entry_calls, other_calls, other_lines, call_of, line_of, pipe_of, in_file_of, out_pipe_of, sink_of, guest_line_of, setting_of, call_line_of, without_fields, on_number as on_number_of, number_and, reading_of, exit_of, input_of, output_of};
-ghost use Rattle.wasi_script.specs.Fields.{number_of, capacity_of};
+ghost use Rattle.wasi_script.specs.Grammar.{meaning_by, without_fields, entry_calls, other_calls, other_lines, call_of, line_of, pipe_of, in_file_of, out_pipe_of, sink_fields, guest_line_of, call_line_of, on_number as on_number_of, reading_of, exit_of, input_of, output_of};
+ghost use Rattle.wasi_script.specs.Fields.{two_fields, guest_of, number_of, capacity_of};
 ghost use Rattle.wasi_script.specs.Bytes.{byte_string_of};
 ghost use Rattle.wasi_script.specs.declared.lines.Call.TheVariants as call;
-ghost use Rattle.wasi_script.specs.declared.lines.OutputDeclaration.TheVariants as output_declaration;
-ghost use Rattle.wasi_script.specs.declared.lines.Setting.TheVariants as setting;
+ghost use Rattle.wasi_script.specs.declared.lines.Line.TheVariants as line;
 ghost use Rattle.wasi_script.specs.Reads.{Reads};
 
 use crate::bytes::ByteString;
@@ -54,9 +53,11 @@ fn parse_line(alloc: Global, mut words: Parts) -> Result<Line, Refusal>
     } else if is(word, b"outpipe") {
         parse_out_pipe(alloc, words)
     } else if is(word, b"outfile") {
-        parse_out_file(alloc, words)
+        let (name, room, plan) = name_room_and_plan(alloc, words)?;
+        Ok(output(name, OutputDeclaration::File { room, plan }))
     } else if is(word, b"stdio") {
-        parse_stdio(alloc, words)
+        let (name, room, plan) = name_room_and_plan(alloc, words)?;
+        Ok(output(name, OutputDeclaration::Stdio { room, plan }))
     } else {
         parse_other_line(alloc, word, words)
     }
@@ -69,24 +70,43 @@ fn parse_other_line(alloc: Global, word: &[u8], words: Parts) -> Result<Line, Re
     if is(word, b"guest") {
         parse_guest_line(alloc, words)
     } else if is(word, b"stdout") {
-        parse_stdout(alloc, words)
+        let (guest, output) = guest_and_output(alloc, words)?;
+        Ok(configure(guest, Setting::Stdout(output)))
     } else if is(word, b"stderr") {
-        parse_stderr(alloc, words)
+        let (guest, output) = guest_and_output(alloc, words)?;
+        Ok(configure(guest, Setting::Stderr(output)))
     } else if is(word, b"capacity") {
-        parse_capacity_line(words).ok_or(Refusal::Invalid)
+        let (guest, capacity) = guest_and_capacity(words).ok_or(Refusal::Invalid)?;
+        Ok(configure(guest, Setting::Capacity(capacity)))
     } else if is(word, b"call") {
         parse_call_line(alloc, words)
     } else if is(word, b"capture") {
-        is_done(words)
-            .then_some(Line::Worker(WorkerTurn::Capture))
-            .ok_or(Refusal::Invalid)
+        worker(words, WorkerTurn::Capture)
     } else if is(word, b"deliver") {
-        is_done(words)
-            .then_some(Line::Worker(WorkerTurn::Deliver))
-            .ok_or(Refusal::Invalid)
+        worker(words, WorkerTurn::Deliver)
     } else {
         Err(Refusal::Invalid)
     }
+}
+
+fn output(name: Name, output: OutputDeclaration) -> Line
+    ensures { result ≡ line.Output name output }
+{
+    Line::Output { name, output }
+}
+
+fn configure(guest: u32, setting: Setting) -> Line
+    ensures { result ≡ line.Configure guest setting }
+{
+    Line::Configure { guest, setting }
+}
+
+fn worker(words: Parts, turn: WorkerTurn) -> Result<Line, Refusal>
+    ensures { Reads result (without_fields (line.Worker turn) words.entry) }
+{
+    is_done(words)
+        .then_some(Line::Worker(turn))
+        .ok_or(Refusal::Invalid)
 }
 
 fn parse_pipe(alloc: Global, mut words: Parts) -> Result<Line, Refusal>
@@ -114,30 +134,17 @@ fn parse_out_pipe(alloc: Global, mut words: Parts) -> Result<Line, Refusal>
     let name = Name::read(alloc, words.next().ok_or(Refusal::Invalid)?)?;
     let word = only(words).ok_or(Refusal::Invalid)?;
     let capacity = parse_room(word).ok_or(Refusal::Invalid)?;
-    let output = OutputDeclaration::Pipe { capacity };
-    Ok(Line::Output { name, output })
+    Ok(output(name, OutputDeclaration::Pipe { capacity }))
 }
 
-fn parse_out_file(alloc: Global, mut words: Parts) -> Result<Line, Refusal>
-    ensures { Reads result (sink_of output_declaration.File words.entry) }
+fn name_room_and_plan(alloc: Global, mut words: Parts) -> Result<(Name, u64, WritePlan), Refusal>
+    ensures { Reads result (sink_fields words.entry) }
 {
     let name = Name::read(alloc, words.next().ok_or(Refusal::Invalid)?)?;
     let word = words.next().ok_or(Refusal::Invalid)?;
     let room = parse_room(word).ok_or(Refusal::Invalid)?;
     let plan = WritePlan::read(alloc, only(words).ok_or(Refusal::Invalid)?)?;
-    let output = OutputDeclaration::File { room, plan };
-    Ok(Line::Output { name, output })
-}
-
-fn parse_stdio(alloc: Global, mut words: Parts) -> Result<Line, Refusal>
-    ensures { Reads result (sink_of output_declaration.Stdio words.entry) }
-{
-    let name = Name::read(alloc, words.next().ok_or(Refusal::Invalid)?)?;
-    let word = words.next().ok_or(Refusal::Invalid)?;
-    let room = parse_room(word).ok_or(Refusal::Invalid)?;
-    let plan = WritePlan::read(alloc, only(words).ok_or(Refusal::Invalid)?)?;
-    let output = OutputDeclaration::Stdio { room, plan };
-    Ok(Line::Output { name, output })
+    Ok((name, room, plan))
 }
 
 fn parse_guest_line(alloc: Global, mut words: Parts) -> Result<Line, Refusal>
@@ -149,33 +156,21 @@ fn parse_guest_line(alloc: Global, mut words: Parts) -> Result<Line, Refusal>
     Ok(Line::Guest { guest, input })
 }
 
-fn parse_stdout(alloc: Global, mut words: Parts) -> Result<Line, Refusal>
-    ensures { Reads result (setting_of output_of setting.Stdout words.entry) }
+fn guest_and_output(alloc: Global, mut words: Parts) -> Result<(u32, Output), Refusal>
+    ensures { Reads result (two_fields guest_of output_of words.entry) }
 {
     let word = words.next().ok_or(Refusal::Invalid)?;
     let guest = parse_guest(word).ok_or(Refusal::Invalid)?;
     let output = parse_output(alloc, only(words).ok_or(Refusal::Invalid)?)?;
-    let setting = Setting::Stdout(output);
-    Ok(Line::Configure { guest, setting })
+    Ok((guest, output))
 }
 
-fn parse_stderr(alloc: Global, mut words: Parts) -> Result<Line, Refusal>
-    ensures { Reads result (setting_of output_of setting.Stderr words.entry) }
-{
-    let word = words.next().ok_or(Refusal::Invalid)?;
-    let guest = parse_guest(word).ok_or(Refusal::Invalid)?;
-    let output = parse_output(alloc, only(words).ok_or(Refusal::Invalid)?)?;
-    let setting = Setting::Stderr(output);
-    Ok(Line::Configure { guest, setting })
-}
-
-fn parse_capacity_line(mut words: Parts) -> Option<Line>
-    ensures { result ≡ setting_of capacity_of setting.Capacity words.entry }
+fn guest_and_capacity(mut words: Parts) -> Option<(u32, u32)>
+    ensures { result ≡ two_fields guest_of capacity_of words.entry }
 {
     let guest = parse_guest(words.next()?)?;
     let capacity = parse_capacity(only(words)?)?;
-    let setting = Setting::Capacity(capacity);
-    Some(Line::Configure { guest, setting })
+    Some((guest, capacity))
 }
 
 fn parse_call_line(alloc: Global, mut words: Parts) -> Result<Line, Refusal>
@@ -270,7 +265,7 @@ fn on_number(words: Parts, it: EntryCall) -> Result<Call, Refusal>
 
 // an entry's number, and a number more
 fn number_and_number(mut words: Parts) -> Result<(u64, u64), Refusal>
-    ensures { Reads result (number_and number_of words.entry) }
+    ensures { Reads result (two_fields number_of number_of words.entry) }
 {
     let word = words.next().ok_or(Refusal::Invalid)?;
     let number = parse_number(word).ok_or(Refusal::Invalid)?;
@@ -281,7 +276,7 @@ fn number_and_number(mut words: Parts) -> Result<(u64, u64), Refusal>
 
 // an entry's number, and bytes
 fn number_and_bytes(alloc: Global, mut words: Parts) -> Result<(u64, ByteString), Refusal>
-    ensures { Reads result (number_and byte_string_of words.entry) }
+    ensures { Reads result (two_fields number_of byte_string_of words.entry) }
 {
     let word = words.next().ok_or(Refusal::Invalid)?;
     let number = parse_number(word).ok_or(Refusal::Invalid)?;
