@@ -1,6 +1,6 @@
 -- The steps of a script, line by line.
 use Rattle.std.proofs.Common.{◌≡◌, ℕ, ◌+◌, Bool, true, false, List, [], ◌∷◌, ◌++◌, refl, ap, sym, ◌∙◌, append_assoc, cond, subst}
-use Rattle.wasi_script.specs.Standing.{steps_stand}
+use Rattle.wasi_script.specs.laws.Standing.{steps_stand}
 use Rattle.wasi_script.specs.declared.lines.Line.{Line}
 use Rattle.wasi_script.specs.declared.forms.Reading.{Reading}
 use Rattle.wasi_script.specs.declared.forms.Reading.TheVariants.{Note, Step, Invalid}

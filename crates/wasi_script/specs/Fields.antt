@@ -59,3 +59,7 @@ with_first read rest (field ∷ fields) = option_and_then (λ it. rest it fields
 -- one field, and no more
 abbrev pub with_last : {A B : Type 0} → (List ℕ → Option A) → (A → B) → List (List ℕ) → Option B
 with_last read make fields = option_map make (option_and_then read (only_field fields))
+
+-- two fields, and no more
+abbrev pub two_fields : {A B : Type 0} → (List ℕ → Option A) → (List ℕ → Option B) → List (List ℕ) → Option (A × B)
+two_fields first second = with_first first (λ it. with_last second (λ other. (it, other)))

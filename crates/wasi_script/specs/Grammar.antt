@@ -3,7 +3,7 @@ use Rattle.std.specs.Prelude.{◌≡◌, ℕ, ◌+◌, Bool, true, false, cond, 
 use Rattle.std.specs.List.{list_any, slice_split}
 use Rattle.std.specs.Option.{option_map}
 use Rattle.std.specs.Str.{bytes_eq}
-use Rattle.wasi_script.specs.Fields.{words_of, guest_of, number_of, capacity_of, room_of, exit_code_of, is_at_end, with_first, with_last}
+use Rattle.wasi_script.specs.Fields.{words_of, guest_of, number_of, capacity_of, room_of, exit_code_of, is_at_end, with_first, with_last, two_fields}
 use Rattle.wasi_script.specs.Name.{name_of}
 use Rattle.wasi_script.specs.Bytes.{byte_string_of, declared_bytes_of}
 use Rattle.wasi_script.specs.Plans.{read_plan_of, write_plan_of}
@@ -77,7 +77,7 @@ abbrev pub on_number : EntryCall → List (List ℕ) → Option Call
 on_number it = with_last number_of (λ number. call.On number it)
 
 abbrev pub on_number_with : {A : Type 0} → (List ℕ → Option A) → (A → EntryCall) → List (List ℕ) → Option Call
-on_number_with field it = with_first number_of (λ number. with_last field (λ value. call.On number (it value)))
+on_number_with field it fields = option_map (λ both. call.On both.0 (it both.1)) (two_fields number_of field fields)
 
 abbrev pub entry_calls : List (Form Call)
 entry_calls =
@@ -115,15 +115,18 @@ abbrev pub out_pipe_of : List (List ℕ) → Option Line
 out_pipe_of = with_first name_of (λ name. with_last room_of (λ capacity. line.Output name (output_declaration.Pipe capacity)))
 
 -- a sink's name, room and plan
+abbrev pub sink_fields : List (List ℕ) → Option (List ℕ × ℕ × List SinkPlan)
+sink_fields = with_first name_of (λ name. with_first room_of (λ room. with_last write_plan_of (λ plan. (name, room, plan))))
+
 abbrev pub sink_of : (ℕ → List SinkPlan → OutputDeclaration) → List (List ℕ) → Option Line
-sink_of make = with_first name_of (λ name. with_first room_of (λ room. with_last write_plan_of (λ plan. line.Output name (make room plan))))
+sink_of make fields = option_map (λ it. line.Output it.0 (make it.1 it.2)) (sink_fields fields)
 
 abbrev pub guest_line_of : List (List ℕ) → Option Line
 guest_line_of = with_first guest_of (λ guest. with_last input_of (line.Guest guest))
 
 -- a guest, and a setting of it
 abbrev pub setting_of : {A : Type 0} → (List ℕ → Option A) → (A → Setting) → List (List ℕ) → Option Line
-setting_of field it = with_first guest_of (λ guest. with_last field (λ value. line.Configure guest (it value)))
+setting_of field it fields = option_map (λ both. line.Configure both.0 (it both.1)) (two_fields guest_of field fields)
 
 abbrev pub call_line_of : List (List ℕ) → Option Line
 call_line_of = with_first guest_of (λ guest fields. option_map (line.Call guest) (call_of fields))

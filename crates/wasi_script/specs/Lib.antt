@@ -8,4 +8,4 @@ pub mod Parts
 pub mod Plans
 pub mod Reads
 pub mod Refused
-pub mod Standing
+pub mod laws

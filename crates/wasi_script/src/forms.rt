@@ -1,11 +1,9 @@
-ghost use Rattle.std.specs.Prelude.{◌≡◌, ℕ, List, ◌∷◌, ◌++◌, IfOk};
-ghost use Rattle.wasi_script.specs.Grammar.{meaning_by, entry_calls, other_calls, other_lines, call_of, line_of, pipe_of, in_file_of, out_pipe_of, sink_of, guest_line_of, setting_of, call_line_of, without_fields, on_number, on_number_with, reading_of, exit_of, input_of, output_of};
-ghost use Rattle.wasi_script.specs.Fields.{number_of, capacity_of};
+ghost use Rattle.std.specs.Prelude.{◌≡◌, ◌∷◌, ◌++◌, IfOk};
+ghost use Rattle.wasi_script.specs.Grammar.{meaning_by, without_fields, entry_calls, other_calls, other_lines, call_of, line_of, pipe_of, in_file_of, out_pipe_of, sink_fields, guest_line_of, call_line_of, on_number as on_number_of, reading_of, exit_of, input_of, output_of};
+ghost use Rattle.wasi_script.specs.Fields.{two_fields, guest_of, number_of, capacity_of};
 ghost use Rattle.wasi_script.specs.Bytes.{byte_string_of};
 ghost use Rattle.wasi_script.specs.declared.lines.Call.TheVariants as call;
-ghost use Rattle.wasi_script.specs.declared.lines.EntryCall.{EntryCall};
-ghost use Rattle.wasi_script.specs.declared.lines.OutputDeclaration.TheVariants as output_declaration;
-ghost use Rattle.wasi_script.specs.declared.lines.Setting.TheVariants as setting;
+ghost use Rattle.wasi_script.specs.declared.lines.Line.TheVariants as line;
 ghost use Rattle.wasi_script.specs.Reads.{Reads};
 
 use crate::bytes::ByteString;
@@ -55,9 +53,11 @@ fn parse_line(alloc: Global, mut words: Parts) -> Result<Line, Refusal>
     } else if is(word, b"outpipe") {
         parse_out_pipe(alloc, words)
     } else if is(word, b"outfile") {
-        parse_out_file(alloc, words)
+        let (name, room, plan) = name_room_and_plan(alloc, words)?;
+        Ok(output(name, OutputDeclaration::File { room, plan }))
     } else if is(word, b"stdio") {
-        parse_stdio(alloc, words)
+        let (name, room, plan) = name_room_and_plan(alloc, words)?;
+        Ok(output(name, OutputDeclaration::Stdio { room, plan }))
     } else {
         parse_other_line(alloc, word, words)
     }
@@ -70,24 +70,43 @@ fn parse_other_line(alloc: Global, word: &[u8], words: Parts) -> Result<Line, Re
     if is(word, b"guest") {
         parse_guest_line(alloc, words)
     } else if is(word, b"stdout") {
-        parse_stdout(alloc, words)
+        let (guest, output) = guest_and_output(alloc, words)?;
+        Ok(configure(guest, Setting::Stdout(output)))
     } else if is(word, b"stderr") {
-        parse_stderr(alloc, words)
+        let (guest, output) = guest_and_output(alloc, words)?;
+        Ok(configure(guest, Setting::Stderr(output)))
     } else if is(word, b"capacity") {
-        parse_capacity_line(words).ok_or(Refusal::Invalid)
+        let (guest, capacity) = guest_and_capacity(words).ok_or(Refusal::Invalid)?;
+        Ok(configure(guest, Setting::Capacity(capacity)))
     } else if is(word, b"call") {
         parse_call_line(alloc, words)
     } else if is(word, b"capture") {
-        is_done(words)
-            .then_some(Line::Worker(WorkerTurn::Capture))
-            .ok_or(Refusal::Invalid)
+        worker(words, WorkerTurn::Capture)
     } else if is(word, b"deliver") {
-        is_done(words)
-            .then_some(Line::Worker(WorkerTurn::Deliver))
-            .ok_or(Refusal::Invalid)
+        worker(words, WorkerTurn::Deliver)
     } else {
         Err(Refusal::Invalid)
     }
+}
+
+fn output(name: Name, output: OutputDeclaration) -> Line
+    ensures { result ≡ line.Output name output }
+{
+    Line::Output { name, output }
+}
+
+fn configure(guest: u32, setting: Setting) -> Line
+    ensures { result ≡ line.Configure guest setting }
+{
+    Line::Configure { guest, setting }
+}
+
+fn worker(words: Parts, turn: WorkerTurn) -> Result<Line, Refusal>
+    ensures { Reads result (without_fields (line.Worker turn) words.entry) }
+{
+    is_done(words)
+        .then_some(Line::Worker(turn))
+        .ok_or(Refusal::Invalid)
 }
 
 fn parse_pipe(alloc: Global, mut words: Parts) -> Result<Line, Refusal>
@@ -115,30 +134,17 @@ fn parse_out_pipe(alloc: Global, mut words: Parts) -> Result<Line, Refusal>
     let name = Name::read(alloc, words.next().ok_or(Refusal::Invalid)?)?;
     let word = only(words).ok_or(Refusal::Invalid)?;
     let capacity = parse_room(word).ok_or(Refusal::Invalid)?;
-    let output = OutputDeclaration::Pipe { capacity };
-    Ok(Line::Output { name, output })
+    Ok(output(name, OutputDeclaration::Pipe { capacity }))
 }
 
-fn parse_out_file(alloc: Global, mut words: Parts) -> Result<Line, Refusal>
-    ensures { Reads result (sink_of output_declaration.File words.entry) }
+fn name_room_and_plan(alloc: Global, mut words: Parts) -> Result<(Name, u64, WritePlan), Refusal>
+    ensures { Reads result (sink_fields words.entry) }
 {
     let name = Name::read(alloc, words.next().ok_or(Refusal::Invalid)?)?;
     let word = words.next().ok_or(Refusal::Invalid)?;
     let room = parse_room(word).ok_or(Refusal::Invalid)?;
     let plan = WritePlan::read(alloc, only(words).ok_or(Refusal::Invalid)?)?;
-    let output = OutputDeclaration::File { room, plan };
-    Ok(Line::Output { name, output })
-}
-
-fn parse_stdio(alloc: Global, mut words: Parts) -> Result<Line, Refusal>
-    ensures { Reads result (sink_of output_declaration.Stdio words.entry) }
-{
-    let name = Name::read(alloc, words.next().ok_or(Refusal::Invalid)?)?;
-    let word = words.next().ok_or(Refusal::Invalid)?;
-    let room = parse_room(word).ok_or(Refusal::Invalid)?;
-    let plan = WritePlan::read(alloc, only(words).ok_or(Refusal::Invalid)?)?;
-    let output = OutputDeclaration::Stdio { room, plan };
-    Ok(Line::Output { name, output })
+    Ok((name, room, plan))
 }
 
 fn parse_guest_line(alloc: Global, mut words: Parts) -> Result<Line, Refusal>
@@ -150,33 +156,21 @@ fn parse_guest_line(alloc: Global, mut words: Parts) -> Result<Line, Refusal>
     Ok(Line::Guest { guest, input })
 }
 
-fn parse_stdout(alloc: Global, mut words: Parts) -> Result<Line, Refusal>
-    ensures { Reads result (setting_of output_of setting.Stdout words.entry) }
+fn guest_and_output(alloc: Global, mut words: Parts) -> Result<(u32, Output), Refusal>
+    ensures { Reads result (two_fields guest_of output_of words.entry) }
 {
     let word = words.next().ok_or(Refusal::Invalid)?;
     let guest = parse_guest(word).ok_or(Refusal::Invalid)?;
     let output = parse_output(alloc, only(words).ok_or(Refusal::Invalid)?)?;
-    let setting = Setting::Stdout(output);
-    Ok(Line::Configure { guest, setting })
+    Ok((guest, output))
 }
 
-fn parse_stderr(alloc: Global, mut words: Parts) -> Result<Line, Refusal>
-    ensures { Reads result (setting_of output_of setting.Stderr words.entry) }
-{
-    let word = words.next().ok_or(Refusal::Invalid)?;
-    let guest = parse_guest(word).ok_or(Refusal::Invalid)?;
-    let output = parse_output(alloc, only(words).ok_or(Refusal::Invalid)?)?;
-    let setting = Setting::Stderr(output);
-    Ok(Line::Configure { guest, setting })
-}
-
-fn parse_capacity_line(mut words: Parts) -> Option<Line>
-    ensures { result ≡ setting_of capacity_of setting.Capacity words.entry }
+fn guest_and_capacity(mut words: Parts) -> Option<(u32, u32)>
+    ensures { result ≡ two_fields guest_of capacity_of words.entry }
 {
     let guest = parse_guest(words.next()?)?;
     let capacity = parse_capacity(only(words)?)?;
-    let setting = Setting::Capacity(capacity);
-    Some(Line::Configure { guest, setting })
+    Some((guest, capacity))
 }
 
 fn parse_call_line(alloc: Global, mut words: Parts) -> Result<Line, Refusal>
@@ -223,71 +217,71 @@ fn parse_entry_call(alloc: Global, name: &[u8], words: Parts) -> Result<Call, Re
     ensures { Reads result (meaning_by (entry_calls ++ other_calls) (name.now ∷ words.entry)) }
 {
     if is(name, b"read") {
-        on_number_with_number(words, |size| EntryCall::Read { size })
+        let (number, size) = number_and_number(words)?;
+        Ok(on(number, EntryCall::Read { size }))
     } else if is(name, b"skip") {
-        on_number_with_number(words, |size| EntryCall::Skip { size })
+        let (number, size) = number_and_number(words)?;
+        Ok(on(number, EntryCall::Skip { size }))
     } else if is(name, b"poll-read") {
-        on_number_with_number(words, |room| EntryCall::PollRead { room })
+        let (number, room) = number_and_number(words)?;
+        Ok(on(number, EntryCall::PollRead { room }))
     } else if is(name, b"check-write") {
-        on_number_alone(words, EntryCall::CheckWrite)
+        on_number(words, EntryCall::CheckWrite)
     } else if is(name, b"write") {
-        on_number_with_bytes(alloc, words, |bytes| EntryCall::Write { bytes })
+        let (number, bytes) = number_and_bytes(alloc, words)?;
+        Ok(on(number, EntryCall::Write { bytes }))
     } else if is(name, b"flush") {
-        on_number_alone(words, EntryCall::Flush)
+        on_number(words, EntryCall::Flush)
     } else if is(name, b"poll-write") {
-        on_number_with_bytes(alloc, words, |bytes| EntryCall::PollWrite { bytes })
+        let (number, bytes) = number_and_bytes(alloc, words)?;
+        Ok(on(number, EntryCall::PollWrite { bytes }))
     } else if is(name, b"poll-flush") {
-        on_number_alone(words, EntryCall::PollFlush)
+        on_number(words, EntryCall::PollFlush)
     } else if is(name, b"subscribe") {
-        on_number_alone(words, EntryCall::Subscribe)
+        on_number(words, EntryCall::Subscribe)
     } else if is(name, b"ready") {
-        on_number_alone(words, EntryCall::Ready)
+        on_number(words, EntryCall::Ready)
     } else if is(name, b"block") {
-        on_number_alone(words, EntryCall::Block)
+        on_number(words, EntryCall::Block)
     } else {
         parse_other_call(name, words).ok_or(Refusal::Invalid)
     }
 }
 
-// a call on a number, and no more
-fn on_number_alone(words: Parts, it: EntryCall) -> Result<Call, Refusal>
-    ensures { Reads result (on_number it words.entry) }
+fn on(number: u64, it: EntryCall) -> Call
+    ensures { result ≡ call.On number it }
+{
+    Call::On { number, call: it }
+}
+
+// a call with no more fields than its entry's number
+fn on_number(words: Parts, it: EntryCall) -> Result<Call, Refusal>
+    ensures { Reads result (on_number_of it words.entry) }
 {
     let word = only(words).ok_or(Refusal::Invalid)?;
     let number = parse_number(word).ok_or(Refusal::Invalid)?;
-    Ok(Call::On { number, call: it })
+    Ok(on(number, it))
 }
 
-// .. and another number
-fn on_number_with_number<F: FnOnce(u64) -> EntryCall>(
-    mut words: Parts,
-    make: F,
-) -> Result<Call, Refusal>
-    requires { F.IsAlwaysCallable make }
-    ensures { (it : ℕ → EntryCall) → ((value : ℕ) → (made : EntryCall) → F.post make value made → made ≡ it value) → Reads result (on_number_with number_of it words.entry) }
+// an entry's number, and a number more
+fn number_and_number(mut words: Parts) -> Result<(u64, u64), Refusal>
+    ensures { Reads result (two_fields number_of number_of words.entry) }
 {
     let word = words.next().ok_or(Refusal::Invalid)?;
     let number = parse_number(word).ok_or(Refusal::Invalid)?;
     let word = only(words).ok_or(Refusal::Invalid)?;
     let value = parse_number(word).ok_or(Refusal::Invalid)?;
-    let it = make(value);
-    Ok(Call::On { number, call: it })
+    Ok((number, value))
 }
 
-// .. and bytes
-fn on_number_with_bytes<F: FnOnce(ByteString) -> EntryCall>(
-    alloc: Global,
-    mut words: Parts,
-    make: F,
-) -> Result<Call, Refusal>
-    requires { F.IsAlwaysCallable make }
-    ensures { (it : List ℕ → EntryCall) → ((value : List ℕ) → (made : EntryCall) → F.post make value made → made ≡ it value) → Reads result (on_number_with byte_string_of it words.entry) }
+// an entry's number, and bytes
+fn number_and_bytes(alloc: Global, mut words: Parts) -> Result<(u64, ByteString), Refusal>
+    ensures { Reads result (two_fields number_of byte_string_of words.entry) }
 {
     let word = words.next().ok_or(Refusal::Invalid)?;
     let number = parse_number(word).ok_or(Refusal::Invalid)?;
     let bytes = ByteString::read(alloc, only(words).ok_or(Refusal::Invalid)?)?;
-    let it = make(bytes);
-    Ok(Call::On { number, call: it })
+    Ok((number, bytes))
 }
 
 // a call on an entry of any kind, or on none

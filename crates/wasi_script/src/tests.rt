@@ -5,7 +5,10 @@ ghost use Rattle.std.specs.Prelude.{◌≡◌, length, IfOk};
 mod calls;
 mod refusals;
 
-use crate::{ByteString, Input, Line, Name, Output, Script, ScriptError, parse_script};
+use crate::{
+    ByteString, Input, InputDeclaration, Line, Name, Output, OutputDeclaration, Script,
+    ScriptError, Setting, parse_script,
+};
 use std::alloc::Global;
 use std::process::Abort;
 use std::test::Fail;
@@ -52,7 +55,10 @@ fn check_bytes(
 fn check_pipe(rt: &impl Abort, alloc: Global, text: &str, list: &[u8]) -> Result<(), Fail> {
     let script = only_step(rt, alloc, text)?;
     match script.line(0) {
-        Line::Pipe { name, bytes } => {
+        Line::Input {
+            name,
+            input: InputDeclaration::Pipe { bytes },
+        } => {
             check_name(rt, name, b"P");
             check_bytes(rt, alloc, bytes, list)
         }
@@ -72,7 +78,10 @@ fn bytes_have_three_forms(rt: HostRuntime) -> Result<(), Fail> {
 fn the_longest_field_of_bytes_is_kept(rt: HostRuntime) -> Result<(), Fail> {
     let script = only_step(&rt, rt.alloc(), "pipe P 0000000001048576*fe")?;
     match script.line(0) {
-        Line::Pipe { name: _, bytes } => assert_eq!(rt; bytes.len(), 1048576),
+        Line::Input {
+            name: _,
+            input: InputDeclaration::Pipe { bytes },
+        } => assert_eq!(rt; bytes.len(), 1048576),
         _ => panic!(rt; "no pipe"),
     }
     Ok(())
@@ -81,7 +90,10 @@ fn the_longest_field_of_bytes_is_kept(rt: HostRuntime) -> Result<(), Fail> {
 fn check_read_plan(rt: &impl Abort, alloc: Global, text: &str, list: &[Plan]) -> Result<(), Fail> {
     let script = only_step(rt, alloc, text)?;
     match script.line(0) {
-        Line::InFile { name, bytes, plan } => {
+        Line::Input {
+            name,
+            input: InputDeclaration::File { bytes, plan },
+        } => {
             check_name(rt, name, b"F_1x");
             check_bytes(rt, alloc, bytes, b"ab")?;
             assert_eq!(rt; plan.to_vec(alloc)?.as_slice(), list);
@@ -111,9 +123,9 @@ fn a_file_reads_by_its_plan(rt: HostRuntime) -> Result<(), Fail> {
 fn check_out_pipe(rt: &impl Abort, alloc: Global, text: &str, capacity: u64) -> Result<(), Fail> {
     let script = only_step(rt, alloc, text)?;
     match script.line(0) {
-        Line::OutPipe {
+        Line::Output {
             name,
-            capacity: given,
+            output: OutputDeclaration::Pipe { capacity: given },
         } => {
             check_name(rt, name, b"Out_1");
             assert_eq!(rt; *given, capacity);
@@ -139,10 +151,9 @@ fn check_out_file(
 ) -> Result<(), Fail> {
     let script = only_step(rt, alloc, text)?;
     match script.line(0) {
-        Line::OutFile {
+        Line::Output {
             name,
-            room: given,
-            plan,
+            output: OutputDeclaration::File { room: given, plan },
         } => {
             check_name(rt, name, b"F");
             assert_eq!(rt; *given, room);
@@ -187,10 +198,9 @@ fn check_stdio(
 ) -> Result<(), Fail> {
     let script = only_step(rt, alloc, text)?;
     match script.line(0) {
-        Line::Stdio {
+        Line::Output {
             name,
-            room: given,
-            plan,
+            output: OutputDeclaration::Stdio { room: given, plan },
         } => {
             check_name(rt, name, b"S");
             assert_eq!(rt; *given, room);
@@ -273,9 +283,9 @@ fn set_up(rt: &impl Abort, alloc: Global, line: &str) -> Result<Script, Fail>
 fn a_guest_has_a_standard_output(rt: HostRuntime) -> Result<(), Fail> {
     let script = set_up(&rt, rt.alloc(), "stdout 7 O")?;
     match script.line(2) {
-        Line::Stdout {
+        Line::Configure {
             guest: 7,
-            output: Output::Named(name),
+            setting: Setting::Stdout(Output::Named(name)),
         } => check_name(&rt, name, b"O"),
         _ => panic!(rt; "no output"),
     }
@@ -283,9 +293,9 @@ fn a_guest_has_a_standard_output(rt: HostRuntime) -> Result<(), Fail> {
     assert!(rt;
         matches!(
             script.line(2),
-            Line::Stdout {
+            Line::Configure {
                 guest: 7,
-                output: Output::Empty
+                setting: Setting::Stdout(Output::Empty)
             }
         )
     );
@@ -293,9 +303,9 @@ fn a_guest_has_a_standard_output(rt: HostRuntime) -> Result<(), Fail> {
     assert!(rt;
         matches!(
             script.line(2),
-            Line::Stdout {
+            Line::Configure {
                 guest: 7,
-                output: Output::Sink
+                setting: Setting::Stdout(Output::Sink)
             }
         )
     );
@@ -303,9 +313,9 @@ fn a_guest_has_a_standard_output(rt: HostRuntime) -> Result<(), Fail> {
     assert!(rt;
         matches!(
             script.line(2),
-            Line::Stdout {
+            Line::Configure {
                 guest: 7,
-                output: Output::Closed
+                setting: Setting::Stdout(Output::Closed)
             }
         )
     );
@@ -316,9 +326,9 @@ fn a_guest_has_a_standard_output(rt: HostRuntime) -> Result<(), Fail> {
 fn a_guest_has_a_standard_error(rt: HostRuntime) -> Result<(), Fail> {
     let script = set_up(&rt, rt.alloc(), "stderr 7 O")?;
     match script.line(2) {
-        Line::Stderr {
+        Line::Configure {
             guest: 7,
-            output: Output::Named(name),
+            setting: Setting::Stderr(Output::Named(name)),
         } => check_name(&rt, name, b"O"),
         _ => panic!(rt; "no output"),
     }
@@ -326,9 +336,9 @@ fn a_guest_has_a_standard_error(rt: HostRuntime) -> Result<(), Fail> {
     assert!(rt;
         matches!(
             script.line(2),
-            Line::Stderr {
+            Line::Configure {
                 guest: 7,
-                output: Output::Empty
+                setting: Setting::Stderr(Output::Empty)
             }
         )
     );
@@ -336,9 +346,9 @@ fn a_guest_has_a_standard_error(rt: HostRuntime) -> Result<(), Fail> {
     assert!(rt;
         matches!(
             script.line(2),
-            Line::Stderr {
+            Line::Configure {
                 guest: 7,
-                output: Output::Sink
+                setting: Setting::Stderr(Output::Sink)
             }
         )
     );
@@ -346,9 +356,9 @@ fn a_guest_has_a_standard_error(rt: HostRuntime) -> Result<(), Fail> {
     assert!(rt;
         matches!(
             script.line(2),
-            Line::Stderr {
+            Line::Configure {
                 guest: 7,
-                output: Output::Closed
+                setting: Setting::Stderr(Output::Closed)
             }
         )
     );

@@ -3,7 +3,9 @@
 ghost use Rattle.std.specs.Prelude.{◌≡◌, length, IfOk};
 
 use super::{bad_line, check_bytes, parsed};
-use crate::{Call, ExitStatus, Line, OutputCall, Script};
+use crate::{
+    Access, Call, EntryCall, ExitStatus, Line, OwnCall, Script, Setting, Standard, WorkerTurn,
+};
 use std::alloc::Global;
 use std::process::Abort;
 use std::test::Fail;
@@ -23,18 +25,18 @@ fn each_call_is_a_step(rt: HostRuntime) -> Result<(), Fail> {
     assert!(rt;
         matches!(
             steps[1],
-            Line::Capacity {
+            Line::Configure {
                 guest: 7,
-                capacity: 1
+                setting: Setting::Capacity(1)
             }
         )
     );
     assert!(rt;
         matches!(
             steps[2],
-            Line::Capacity {
+            Line::Configure {
                 guest: 7,
-                capacity: 65536
+                setting: Setting::Capacity(65536)
             }
         )
     );
@@ -43,9 +45,9 @@ fn each_call_is_a_step(rt: HostRuntime) -> Result<(), Fail> {
             steps[3],
             Line::Call {
                 guest: 7,
-                call: Call::Exit {
+                call: Call::Own(OwnCall::Exit {
                     status: ExitStatus::Ok
-                }
+                })
             }
         )
     );
@@ -54,9 +56,9 @@ fn each_call_is_a_step(rt: HostRuntime) -> Result<(), Fail> {
             steps[4],
             Line::Call {
                 guest: 7,
-                call: Call::Exit {
+                call: Call::Own(OwnCall::Exit {
                     status: ExitStatus::Err
-                }
+                })
             }
         )
     );
@@ -65,7 +67,7 @@ fn each_call_is_a_step(rt: HostRuntime) -> Result<(), Fail> {
             steps[5],
             Line::Call {
                 guest: 7,
-                call: Call::ExitCode { code: 255 }
+                call: Call::Own(OwnCall::ExitCode { code: 255 })
             }
         )
     );
@@ -92,7 +94,10 @@ fn calls_on_inputs_are_steps(rt: HostRuntime) -> Result<(), Fail> {
             steps[1],
             Line::Call {
                 guest: 7,
-                call: Call::GetStdin
+                call: Call::Open {
+                    stream: Standard::Input,
+                    access: Access::Plain
+                }
             }
         )
     );
@@ -101,7 +106,10 @@ fn calls_on_inputs_are_steps(rt: HostRuntime) -> Result<(), Fail> {
             steps[2],
             Line::Call {
                 guest: 7,
-                call: Call::AsyncStdin
+                call: Call::Open {
+                    stream: Standard::Input,
+                    access: Access::Polled
+                }
             }
         )
     );
@@ -110,9 +118,11 @@ fn calls_on_inputs_are_steps(rt: HostRuntime) -> Result<(), Fail> {
             steps[3],
             Line::Call {
                 guest: 7,
-                call: Call::Read {
+                call: Call::On {
                     number: 0,
-                    size: 18446744073709551615
+                    call: EntryCall::Read {
+                        size: 18446744073709551615
+                    }
                 }
             }
         )
@@ -122,7 +132,10 @@ fn calls_on_inputs_are_steps(rt: HostRuntime) -> Result<(), Fail> {
             steps[4],
             Line::Call {
                 guest: 7,
-                call: Call::Skip { number: 0, size: 4 }
+                call: Call::On {
+                    number: 0,
+                    call: EntryCall::Skip { size: 4 }
+                }
             }
         )
     );
@@ -131,12 +144,15 @@ fn calls_on_inputs_are_steps(rt: HostRuntime) -> Result<(), Fail> {
             steps[5],
             Line::Call {
                 guest: 7,
-                call: Call::PollRead { number: 4, room: 0 }
+                call: Call::On {
+                    number: 4,
+                    call: EntryCall::PollRead { room: 0 }
+                }
             }
         )
     );
-    assert!(rt; matches!(steps[6], Line::Capture));
-    assert!(rt; matches!(steps[7], Line::Deliver));
+    assert!(rt; matches!(steps[6], Line::Worker(WorkerTurn::Capture)));
+    assert!(rt; matches!(steps[7], Line::Worker(WorkerTurn::Deliver)));
     Ok(())
 }
 
@@ -152,7 +168,10 @@ fn calls_on_entries_are_steps(rt: HostRuntime) -> Result<(), Fail> {
             steps[1],
             Line::Call {
                 guest: 7,
-                call: Call::Subscribe { number: 7 }
+                call: Call::On {
+                    number: 7,
+                    call: EntryCall::Subscribe
+                }
             }
         )
     );
@@ -161,8 +180,9 @@ fn calls_on_entries_are_steps(rt: HostRuntime) -> Result<(), Fail> {
             steps[2],
             Line::Call {
                 guest: 7,
-                call: Call::Ready {
-                    number: 18446744073709551615
+                call: Call::On {
+                    number: 18446744073709551615,
+                    call: EntryCall::Ready
                 }
             }
         )
@@ -172,7 +192,10 @@ fn calls_on_entries_are_steps(rt: HostRuntime) -> Result<(), Fail> {
             steps[3],
             Line::Call {
                 guest: 7,
-                call: Call::Block { number: 0 }
+                call: Call::On {
+                    number: 0,
+                    call: EntryCall::Block
+                }
             }
         )
     );
@@ -199,7 +222,10 @@ fn outputs_are_asked_for(rt: HostRuntime) -> Result<(), Fail> {
             steps[1],
             Line::Call {
                 guest: 7,
-                call: Call::GetStdout
+                call: Call::Open {
+                    stream: Standard::Output,
+                    access: Access::Plain
+                }
             }
         )
     );
@@ -208,7 +234,10 @@ fn outputs_are_asked_for(rt: HostRuntime) -> Result<(), Fail> {
             steps[2],
             Line::Call {
                 guest: 7,
-                call: Call::GetStderr
+                call: Call::Open {
+                    stream: Standard::Error,
+                    access: Access::Plain
+                }
             }
         )
     );
@@ -217,7 +246,10 @@ fn outputs_are_asked_for(rt: HostRuntime) -> Result<(), Fail> {
             steps[3],
             Line::Call {
                 guest: 7,
-                call: Call::AsyncStdout
+                call: Call::Open {
+                    stream: Standard::Output,
+                    access: Access::Polled
+                }
             }
         )
     );
@@ -226,7 +258,10 @@ fn outputs_are_asked_for(rt: HostRuntime) -> Result<(), Fail> {
             steps[4],
             Line::Call {
                 guest: 7,
-                call: Call::AsyncStderr
+                call: Call::Open {
+                    stream: Standard::Error,
+                    access: Access::Polled
+                }
             }
         )
     );
@@ -244,9 +279,9 @@ fn calls_on_outputs_are_steps(rt: HostRuntime) -> Result<(), Fail> {
             steps[1],
             Line::Call {
                 guest: 7,
-                call: Call::OnOutput {
+                call: Call::On {
                     number: 18446744073709551615,
-                    call: OutputCall::CheckWrite
+                    call: EntryCall::CheckWrite
                 }
             }
         )
@@ -256,9 +291,9 @@ fn calls_on_outputs_are_steps(rt: HostRuntime) -> Result<(), Fail> {
             steps[2],
             Line::Call {
                 guest: 7,
-                call: Call::OnOutput {
+                call: Call::On {
                     number: 8,
-                    call: OutputCall::Flush
+                    call: EntryCall::Flush
                 }
             }
         )
@@ -268,9 +303,9 @@ fn calls_on_outputs_are_steps(rt: HostRuntime) -> Result<(), Fail> {
             steps[3],
             Line::Call {
                 guest: 7,
-                call: Call::OnOutput {
+                call: Call::On {
                     number: 9,
-                    call: OutputCall::PollFlush
+                    call: EntryCall::PollFlush
                 }
             }
         )
@@ -299,9 +334,9 @@ fn check_write(
     match script.line(1) {
         Line::Call {
             guest: 7,
-            call: Call::OnOutput {
+            call: Call::On {
                 number: given,
-                call: OutputCall::Write { bytes },
+                call: EntryCall::Write { bytes },
             },
         } => {
             assert_eq!(rt; *given, number);
@@ -335,9 +370,9 @@ fn check_poll_write(
     match script.line(1) {
         Line::Call {
             guest: 7,
-            call: Call::OnOutput {
+            call: Call::On {
                 number: given,
-                call: OutputCall::PollWrite { bytes },
+                call: EntryCall::PollWrite { bytes },
             },
         } => {
             assert_eq!(rt; *given, number);
@@ -366,9 +401,9 @@ fn a_write_is_longer_than_a_stream(rt: HostRuntime) -> Result<(), Fail> {
     match script.line(1) {
         Line::Call {
             guest: 7,
-            call: Call::OnOutput {
+            call: Call::On {
                 number: 0,
-                call: OutputCall::Write { bytes },
+                call: EntryCall::Write { bytes },
             },
         } => assert_eq!(rt; bytes.len(), 1048577),
         _ => panic!(rt; "no write"),

@@ -1,7 +1,7 @@
 //! The first bad line is told by its number.
 
 use super::{bad_line, only_step};
-use crate::Line;
+use crate::{InputDeclaration, Line};
 use std::alloc::Global;
 use std::process::Abort;
 use std::test::Fail;
@@ -186,10 +186,9 @@ fn a_plan_has_at_most_1024_items(rt: HostRuntime) -> Result<(), Fail> {
     }
     let script = only_step(&rt, rt.alloc(), &text)?;
     match script.line(0) {
-        Line::InFile {
+        Line::Input {
             name: _,
-            bytes: _,
-            plan,
+            input: InputDeclaration::File { bytes: _, plan },
         } => { assert_eq!(rt; plan.to_vec(rt.alloc())?.len(), 1024) }
         _ => panic!(rt; "no file"),
     }

@@ -1,0 +1,3 @@
+-- What holds of every valid script.
+pub mod Distinct
+pub mod Standing
