@@ -4,6 +4,8 @@
 mod laws;
 mod piece;
 mod reply;
+#[cfg(test)]
+mod tests;
 mod text;
 
 pub use laws::{
