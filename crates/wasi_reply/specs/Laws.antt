@@ -26,6 +26,6 @@ LinesFixReplies = (replies others : List Reply) (rest more : List ℕ) → AllBy
 abbrev pub LinesFixOutputs : Type 0
 LinesFixOutputs = (outputs others : List (List ℕ × List ℕ)) → AllByRecursion IsOutput outputs → AllByRecursion IsOutput others → output_lines outputs ≡ output_lines others → outputs ≡ others
 
--- so two transcripts with as many replies that are the same are of the same replies and the same outputs
+-- so two transcripts that are the same are of the same replies and the same outputs
 abbrev pub TranscriptsFixBoth : Type 0
-TranscriptsFixBoth = (replies others : List Reply) (outputs more : List (List ℕ × List ℕ)) → AllByRecursion IsReply replies → AllByRecursion IsReply others → AllByRecursion IsOutput outputs → AllByRecursion IsOutput more → length replies ≡ length others → text_of_all replies ++ output_lines outputs ≡ text_of_all others ++ output_lines more → (replies ≡ others) × (outputs ≡ more)
+TranscriptsFixBoth = (replies others : List Reply) (outputs more : List (List ℕ × List ℕ)) → AllByRecursion IsReply replies → AllByRecursion IsReply others → AllByRecursion IsOutput outputs → AllByRecursion IsOutput more → text_of_all replies ++ output_lines outputs ≡ text_of_all others ++ output_lines more → (replies ≡ others) × (outputs ≡ more)

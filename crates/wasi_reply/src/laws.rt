@@ -30,8 +30,8 @@ pub fn lines_fix_outputs()
     ensures { LinesFixOutputs }
 {}
 
-/// A law: two transcripts with as many replies that are the same are of the same replies and of the
-/// same outputs, under both premises.
+/// A law: two transcripts that are the same are of the same replies and of the same outputs, under
+/// both premises. No reply begins as an output's line does.
 pub fn transcripts_fix_both()
     ensures { TranscriptsFixBoth }
 {}

@@ -1,4 +1,4 @@
-use Rattle.wasi_reply.specs.lemmas.FixedReplies.{lines_fix}
+use Rattle.wasi_reply.proofs.FixedReplies.{lines_fix}
 use Rattle.wasi_reply.proofs.laws.lines_fix_replies.Goals as goal
 
 pub returns : goal.returns

@@ -13,7 +13,7 @@ use Rattle.wasi_reply.specs.declared.reply.Reply.{Reply}
 use Rattle.wasi_reply.specs.declared.reply.Reply.TheVariants as reply
 use Rattle.wasi_reply.specs.Field.{Field}
 use Rattle.wasi_reply.specs.Reply.{fields_of}
-use Rattle.wasi_reply.specs.lemmas.SameFields.{Form, form_of, trap_is_last}
+use Rattle.wasi_reply.proofs.SameFields.{Form, form_of, trap_is_last}
 
 -- a word, the kinds of field that follow it, and the reply of such fields
 pub record Row : Type 0 where

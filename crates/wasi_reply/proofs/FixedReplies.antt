@@ -6,11 +6,11 @@ use Rattle.wasi_reply.specs.declared.reply.Reply.{Reply}
 use Rattle.wasi_reply.specs.Field.{fields_text}
 use Rattle.wasi_reply.specs.Lines.{lines_in}
 use Rattle.wasi_reply.specs.Reply.{IsReply, fields_of, text_of, text_of_all}
-use Rattle.wasi_reply.specs.lemmas.FieldTexts.{fields_begin}
-use Rattle.wasi_reply.specs.lemmas.Lacking.{lacking, same_parts}
-use Rattle.wasi_reply.specs.lemmas.Reader.{forms_after, reply_of, reads_back}
-use Rattle.wasi_reply.specs.lemmas.ReplyLines.{are_lines, reply_word}
-use Rattle.wasi_reply.specs.lemmas.SameFields.{form_of, same_fields}
+use Rattle.wasi_reply.proofs.FieldTexts.{fields_begin}
+use Rattle.wasi_reply.proofs.Lacking.{lacking, same_parts}
+use Rattle.wasi_reply.proofs.Reader.{forms_after, reply_of, reads_back}
+use Rattle.wasi_reply.proofs.ReplyLines.{are_lines, reply_word}
+use Rattle.wasi_reply.proofs.SameFields.{form_of, same_fields}
 
 pub texts_fix : (a b : Reply) → IsReply a → IsReply b → text_of a ≡ text_of b → a ≡ b
 texts_fix a b in_a in_b e =
@@ -37,13 +37,3 @@ same_front (first ∷ a) (second ∷ b) x y in_a in_b n e =
 -- the lines fix as many replies
 pub lines_fix : (a b : List Reply) (rest more : List ℕ) → AllByRecursion IsReply a → AllByRecursion IsReply b → length a ≡ length b → text_of_all a ++ rest ≡ text_of_all b ++ more → a ≡ b
 lines_fix a b rest more in_a in_b count e = same_front a b (lines_in rest) (lines_in more) in_a in_b count (sym (are_lines a rest) ∙ ap lines_in e ∙ are_lines b more)
-
-same_end : (front x y : List ℕ) → front ++ x ≡ front ++ y → x ≡ y
-same_end [] x y e = e
-same_end (byte ∷ front) x y e = same_end front x y (cc)
-
--- and what comes after them
-pub rest_fix : (a b : List Reply) (rest more : List ℕ) → AllByRecursion IsReply a → AllByRecursion IsReply b → length a ≡ length b → text_of_all a ++ rest ≡ text_of_all b ++ more → rest ≡ more
-rest_fix a b rest more in_a in_b count e =
-    let same = lines_fix a b rest more in_a in_b count e in
-    same_end (text_of_all a) rest more (e ∙ ap (λ replies. text_of_all replies ++ more) (sym same))
