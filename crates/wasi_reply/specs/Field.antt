@@ -1,10 +1,11 @@
 -- The kinds of field in the text of a reply, and the text of each.
-use Rattle.std.specs.Prelude.{ℕ, List, [], ◌∷◌, ◌++◌, codes}
+use Rattle.std.specs.Prelude.{ℕ, ◌<◌, ◌^◌, List, [], ◌∷◌, ◌++◌, codes}
 use Rattle.std.specs.Fmt.{decimal}
 use Rattle.std.specs.List.{flat_map}
-use Rattle.hex.specs.Hex.{encode_lower}
+use Rattle.hex.specs.Hex.{IsBytes, encode_lower}
 use Rattle.wasi_base.specs.declared.io_kind.IoKind.{IoKind}
 use Rattle.wasi_base.specs.declared.trap_text.TrapText.{TrapText}
+use Rattle.wasi_base.specs.declared.trap_text.TrapText.TheVariants.{RequestedLength}
 use Rattle.wasi_base.specs.IoKind.{kind_name}
 use Rattle.wasi_base.specs.TrapText.{trap_text}
 
@@ -33,3 +34,14 @@ fields_text fields = flat_map (λ field. codes " " ++ field_text field) fields
 -- a word, and then its fields
 abbrev pub worded : List ℕ × List Field → List ℕ
 worded said = said.0 ++ fields_text said.1
+
+-- its numbers fit 64 bits, and its bytes are bytes, as the types of the code see to
+abbrev pub IsTrap : TrapText → Type 0
+IsTrap (RequestedLength length limit) = (length < 2 ^ 64) × (limit < 2 ^ 64)
+IsTrap _ = Unit {0}
+
+abbrev pub IsField : Field → Type 0
+IsField (Field.Number number) = number < 2 ^ 64
+IsField (Field.Hex bytes) = IsBytes bytes
+IsField (Field.Kind kind) = Unit {0}
+IsField (Field.Trap trap) = IsTrap trap

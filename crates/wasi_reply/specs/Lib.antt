@@ -4,4 +4,3 @@ pub mod Lines
 pub mod Outputs
 pub mod Piece
 pub mod Reply
-pub mod lemmas

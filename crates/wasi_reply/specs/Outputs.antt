@@ -1,6 +1,7 @@
 -- The lines that tell what the declared outputs took.
-use Rattle.std.specs.Prelude.{ℕ, List, [], ◌∷◌, ◌++◌, codes}
-use Rattle.std.specs.List.{flat_map}
+use Rattle.std.specs.Prelude.{◌≢◌, ℕ, List, [], ◌∷◌, ◌++◌, codes}
+use Rattle.std.specs.List.{AllByRecursion, flat_map}
+use Rattle.hex.specs.Hex.{IsBytes}
 use Rattle.wasi_reply.specs.Field.{Field, worded}
 
 -- an output's name, and the bytes that it took
@@ -9,3 +10,7 @@ output_line output = codes "output " ++ (worded (output.0, Field.Hex output.1 �
 
 abbrev pub output_lines : List (List ℕ × List ℕ) → List ℕ
 output_lines outputs = flat_map output_line outputs
+
+-- its name holds no space, and its bytes are bytes
+abbrev pub IsOutput : List ℕ × List ℕ → Type 0
+IsOutput output = AllByRecursion (λ byte. byte ≢ 32) output.0 × IsBytes output.1

@@ -1,13 +1,13 @@
 -- What a step replies, and the text of it.
 use Rattle.std.specs.Prelude.{ℕ, Bool, true, false, List, [], ◌∷◌, ◌++◌, codes}
-use Rattle.std.specs.List.{flat_map}
+use Rattle.std.specs.List.{AllByRecursion, flat_map}
 use Rattle.wasi_reply.specs.declared.reply.Told.{Told}
 use Rattle.wasi_reply.specs.declared.reply.Told.TheVariants as told
 use Rattle.wasi_reply.specs.declared.reply.Worked.{Worked}
 use Rattle.wasi_reply.specs.declared.reply.Worked.TheVariants as worked
 use Rattle.wasi_reply.specs.declared.reply.Reply.{Reply}
 use Rattle.wasi_reply.specs.declared.reply.Reply.TheVariants as reply
-use Rattle.wasi_reply.specs.Field.{Field, worded}
+use Rattle.wasi_reply.specs.Field.{Field, IsField, worded}
 pub use Rattle.wasi_reply.specs.Field.{hex_of}
 
 -- a reply's word, and its fields
@@ -38,6 +38,10 @@ fields_of (reply.Worked it) = worked_fields it
 
 abbrev pub text_of : Reply → List ℕ
 text_of it = worded (fields_of it)
+
+-- its fields are such as the types of the code hold
+abbrev pub IsReply : Reply → Type 0
+IsReply it = AllByRecursion IsField (fields_of it).1
 
 -- each reply on a line
 abbrev pub reply_line : Reply → List ℕ

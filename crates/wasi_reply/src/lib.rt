@@ -4,9 +4,14 @@
 mod laws;
 mod piece;
 mod reply;
+#[cfg(test)]
+mod tests;
 mod text;
 
-pub use laws::{replies_are_lines, replies_are_one_line};
+pub use laws::{
+    lines_fix_outputs, lines_fix_replies, replies_are_lines, replies_are_one_line,
+    texts_fix_replies, transcripts_fix_both,
+};
 pub use piece::Piece;
 pub use reply::{Reply, Told, Worked};
 pub use text::{push_line, push_output};

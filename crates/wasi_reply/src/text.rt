@@ -1,7 +1,8 @@
 ghost use Rattle.std.specs.Prelude.{◌≡◌, OnOk, OnErr, ◌++◌, [], ◌∷◌, codes, length, take};
-ghost use Rattle.hex.specs.Hex.{encode_lower};
-ghost use Rattle.wasi_reply.specs.Field.{Field, hex_of, worded};
-ghost use Rattle.wasi_reply.specs.Reply.{told_fields, worked_fields, text_of, reply_line};
+ghost use Rattle.std.specs.List.{AllByRecursion};
+ghost use Rattle.hex.specs.Hex.{IsBytes, encode_lower};
+ghost use Rattle.wasi_reply.specs.Field.{Field, IsField, IsTrap, worded};
+ghost use Rattle.wasi_reply.specs.Reply.{IsReply, told_fields, worked_fields, text_of, reply_line};
 ghost use Rattle.wasi_reply.specs.Outputs.{output_line};
 
 use crate::{Reply, Told, Worked};
@@ -46,6 +47,7 @@ fn push_digits(text: &mut Vec<u8>, bytes: &[u8]) -> Result<(), OutOfMemory>
 fn push_hex(text: &mut Vec<u8>, word: &[u8], bytes: &[u8]) -> Result<(), OutOfMemory>
     ensures ok { OnOk result (text.new.items ≡ text.old.items ++ worded (word.now, Field.Hex bytes.now ∷ [])) }
     ensures err { OnErr result (take (length text.old.items) text.new.items ≡ text.old.items) }
+    ensures in_range { IsBytes bytes.now }
 {
     text.extend_from_slice(word)?;
     text.push(b' ')?;
@@ -75,6 +77,7 @@ fn push_trap(
 ) -> Result<(), OutOfMemory>
     ensures ok { OnOk result (text.new.items ≡ text.old.items ++ worded (word.now, Field.Trap trap ∷ [])) }
     ensures err { OnErr result (take (length text.old.items) text.new.items ≡ text.old.items) }
+    ensures in_range { IsTrap trap }
 {
     let why = trap.to_string(alloc)?;
     text.extend_from_slice(word)?;
@@ -86,6 +89,7 @@ fn push_trap(
 fn push_told(alloc: Global, text: &mut Vec<u8>, told: &Told) -> Result<(), OutOfMemory>
     ensures ok { OnOk result (text.new.items ≡ text.old.items ++ worded (told_fields told.now)) }
     ensures err { OnErr result (take (length text.old.items) text.new.items ≡ text.old.items) }
+    ensures in_range { AllByRecursion IsField (told_fields told.now).1 }
 {
     match told {
         Told::Ok => push_word(text, b"ok"),
@@ -104,6 +108,7 @@ fn push_told(alloc: Global, text: &mut Vec<u8>, told: &Told) -> Result<(), OutOf
 fn push_worked(text: &mut Vec<u8>, worked: &Worked) -> Result<(), OutOfMemory>
     ensures ok { OnOk result (text.new.items ≡ text.old.items ++ worded (worked_fields worked.now)) }
     ensures err { OnErr result (take (length text.old.items) text.new.items ≡ text.old.items) }
+    ensures in_range { AllByRecursion IsField (worked_fields worked.now).1 }
 {
     match worked {
         Worked::Captured(size) => push_number(text, b"captured", *size as u64),
@@ -117,6 +122,7 @@ fn push_worked(text: &mut Vec<u8>, worked: &Worked) -> Result<(), OutOfMemory>
 fn push_text(alloc: Global, text: &mut Vec<u8>, reply: &Reply) -> Result<(), OutOfMemory>
     ensures ok { OnOk result (text.new.items ≡ text.old.items ++ text_of reply.now) }
     ensures err { OnErr result (take (length text.old.items) text.new.items ≡ text.old.items) }
+    ensures in_range { IsReply reply.now }
 {
     match reply {
         Reply::Handle(number) => push_number(text, b"handle", u64::from(*number)),
@@ -146,6 +152,7 @@ fn whole_or_none(
 fn push_text_line(alloc: Global, text: &mut Vec<u8>, reply: &Reply) -> Result<(), OutOfMemory>
     ensures ok { OnOk result (text.new.items ≡ text.old.items ++ reply_line reply.now) }
     ensures err { OnErr result (take (length text.old.items) text.new.items ≡ text.old.items) }
+    ensures in_range { IsReply reply.now }
 {
     push_text(alloc, text, reply)?;
     text.push(b'\n')?;
@@ -156,6 +163,7 @@ fn push_text_line(alloc: Global, text: &mut Vec<u8>, reply: &Reply) -> Result<()
 pub fn push_line(alloc: Global, text: &mut Vec<u8>, reply: &Reply) -> Result<(), OutOfMemory>
     ensures ok { OnOk result (text.new.items ≡ text.old.items ++ reply_line reply.now) }
     ensures err { OnErr result (text.new.items ≡ text.old.items) }
+    ensures in_range { IsReply reply.now }
 {
     let before = text.len();
     let answer = push_text_line(alloc, text, reply);
@@ -166,6 +174,7 @@ pub fn push_line(alloc: Global, text: &mut Vec<u8>, reply: &Reply) -> Result<(),
 fn push_output_line(text: &mut Vec<u8>, name: &[u8], taken: &[u8]) -> Result<(), OutOfMemory>
     ensures ok { OnOk result (text.new.items ≡ text.old.items ++ output_line (name.now, taken.now)) }
     ensures err { OnErr result (take (length text.old.items) text.new.items ≡ text.old.items) }
+    ensures in_range { IsBytes taken.now }
 {
     text.extend_from_slice(b"output ")?;
     push_hex(text, name, taken)?;
@@ -178,6 +187,7 @@ fn push_output_line(text: &mut Vec<u8>, name: &[u8], taken: &[u8]) -> Result<(),
 pub fn push_output(text: &mut Vec<u8>, name: &[u8], taken: &[u8]) -> Result<(), OutOfMemory>
     ensures ok { OnOk result (text.new.items ≡ text.old.items ++ output_line (name.now, taken.now)) }
     ensures err { OnErr result (text.new.items ≡ text.old.items) }
+    ensures in_range { IsBytes taken.now }
 {
     let before = text.len();
     let answer = push_output_line(text, name, taken);

@@ -1,0 +1,108 @@
+-- A reply is read back from its word and its fields.
+use Rattle.std.proofs.Common.{◌≡◌, ℕ, true, false, List, [], ◌∷◌, Option, Some, None, refl}
+use Rattle.std.specs.Prelude.{cond, codes, map}
+use Rattle.std.specs.Option.{option_map, option_and_then}
+use Rattle.std.specs.Str.{bytes_eq}
+use Rattle.wasi_base.specs.declared.io_kind.IoKind.{IoKind}
+use Rattle.wasi_base.specs.declared.trap_text.TrapText.{TrapText}
+use Rattle.wasi_reply.specs.declared.reply.Told.{Told}
+use Rattle.wasi_reply.specs.declared.reply.Told.TheVariants as told
+use Rattle.wasi_reply.specs.declared.reply.Worked.{Worked}
+use Rattle.wasi_reply.specs.declared.reply.Worked.TheVariants as worked
+use Rattle.wasi_reply.specs.declared.reply.Reply.{Reply}
+use Rattle.wasi_reply.specs.declared.reply.Reply.TheVariants as reply
+use Rattle.wasi_reply.specs.Field.{Field}
+use Rattle.wasi_reply.specs.Reply.{fields_of}
+use Rattle.wasi_reply.proofs.SameFields.{Form, form_of, trap_is_last}
+
+-- a word, the kinds of field that follow it, and the reply of such fields
+pub record Row : Type 0 where
+  pub word : List ℕ
+  pub forms : List Form
+  pub make : List Field → Option Reply
+
+abbrev of_none : Reply → List Field → Option Reply
+of_none it [] = Some it
+of_none it _ = None
+
+abbrev of_number : (ℕ → Reply) → List Field → Option Reply
+of_number make (Field.Number number ∷ []) = Some (make number)
+of_number make _ = None
+
+abbrev of_hex : (List ℕ → Reply) → List Field → Option Reply
+of_hex make (Field.Hex bytes ∷ []) = Some (make bytes)
+of_hex make _ = None
+
+abbrev of_kind : (IoKind → Reply) → List Field → Option Reply
+of_kind make (Field.Kind kind ∷ []) = Some (make kind)
+of_kind make _ = None
+
+abbrev of_trap : (TrapText → Reply) → List Field → Option Reply
+of_trap make (Field.Trap trap ∷ []) = Some (make trap)
+of_trap make _ = None
+
+abbrev alone : List ℕ → Reply → Row
+alone word it = record { word = word; forms = []; make = of_none it }
+
+abbrev number : List ℕ → (ℕ → Reply) → Row
+number word make = record { word = word; forms = Form.AsNumber ∷ []; make = of_number make }
+
+abbrev hex : List ℕ → (List ℕ → Reply) → Row
+hex word make = record { word = word; forms = Form.AsHex ∷ []; make = of_hex make }
+
+abbrev kind : List ℕ → (IoKind → Reply) → Row
+kind word make = record { word = word; forms = Form.AsKind ∷ []; make = of_kind make }
+
+abbrev trap : List ℕ → (TrapText → Reply) → Row
+trap word make = record { word = word; forms = Form.AsTrap ∷ []; make = of_trap make }
+
+-- one row for each reply
+abbrev rows : List Row
+rows =
+    number (codes "handle") reply.Handle
+    ∷ alone (codes "ok") (reply.Told told.Ok)
+    ∷ hex (codes "bytes") (λ bytes. reply.Told (told.Bytes bytes))
+    ∷ number (codes "count") (λ count. reply.Told (told.Count count))
+    ∷ alone (codes "true") (reply.Told (told.Truth true))
+    ∷ alone (codes "false") (reply.Told (told.Truth false))
+    ∷ alone (codes "pending") (reply.Told told.Pending)
+    ∷ alone (codes "closed") (reply.Told told.Closed)
+    ∷ kind (codes "failed") (λ kind. reply.Told (told.Failed kind))
+    ∷ trap (codes "trap") (λ trap. reply.Told (told.Trap trap))
+    ∷ number (codes "exit") (λ status. reply.Told (told.Exit status))
+    ∷ alone (codes "ended") reply.Ended
+    ∷ number (codes "captured") (λ size. reply.Worked (worked.Captured size))
+    ∷ alone (codes "idle") (reply.Worked worked.Idle)
+    ∷ number (codes "gave") (λ count. reply.Worked (worked.Gave count))
+    ∷ alone (codes "end") (reply.Worked worked.End)
+    ∷ kind (codes "fault") (λ kind. reply.Worked (worked.Fault kind))
+    ∷ []
+
+abbrev row_among : List Row → List ℕ → Option Row
+row_among [] word = None
+row_among (row ∷ others) word = cond (bytes_eq word row.word) (Some row) (row_among others word)
+
+abbrev pub forms_after : List ℕ → Option (List Form)
+forms_after word = option_map (λ (row : Row). row.forms) (row_among rows word)
+
+abbrev pub reply_of : List ℕ → List Field → Option Reply
+reply_of word fields = option_and_then (λ (row : Row). row.make fields) (row_among rows word)
+
+pub record ReadsBack (it : Reply) : Type 0 where
+  pub forms : forms_after (fields_of it).0 ≡ Some (map form_of (fields_of it).1)
+  pub last : trap_is_last (map form_of (fields_of it).1) ≡ true
+  pub reply : reply_of (fields_of it).0 (fields_of it).1 ≡ Some it
+
+told_back : (it : Told) → ReadsBack (reply.Told it)
+told_back (told.Truth true) = record { forms = refl; last = refl; reply = refl }
+told_back (told.Truth false) = record { forms = refl; last = refl; reply = refl }
+told_back _ = record { forms = refl; last = refl; reply = refl }
+
+worked_back : (it : Worked) → ReadsBack (reply.Worked it)
+worked_back worked.Idle = record { forms = refl; last = refl; reply = refl }
+worked_back _ = record { forms = refl; last = refl; reply = refl }
+
+pub reads_back : (it : Reply) → ReadsBack it
+reads_back (reply.Told it) = told_back it
+reads_back (reply.Worked it) = worked_back it
+reads_back _ = record { forms = refl; last = refl; reply = refl }

@@ -1,0 +1,74 @@
+use crate::{Piece, Reply, Told, Worked, push_line, push_output};
+use bytes::Bytes;
+use std::alloc::Global;
+use std::test::Fail;
+use wasi_base::{IoKind, OutOfMemory, TrapText};
+
+fn text_of(alloc: Global, replies: &[Reply]) -> Result<Vec<u8>, OutOfMemory> {
+    let mut text = Vec::new(alloc);
+    for reply in replies {
+        push_line(alloc, &mut text, reply)?;
+    }
+    Ok(text)
+}
+
+#[test]
+fn calls_reply(rt: HostRuntime) -> Result<(), Fail> {
+    let alloc = rt.alloc();
+    let replies = [
+        Reply::Handle(4294967295),
+        Reply::Told(Told::Ok),
+        Reply::Told(Told::Bytes(Piece::new([0x00u8, 0x9f, 0xff].to_vec(alloc)?))),
+        Reply::Told(Told::Bytes(Piece::shared(Bytes::new()))),
+        Reply::Told(Told::Count(18446744073709551615)),
+        Reply::Told(Told::Truth(true)),
+        Reply::Told(Told::Truth(false)),
+        Reply::Told(Told::Pending),
+        Reply::Told(Told::Closed),
+        Reply::Told(Told::Failed(IoKind::BrokenPipe)),
+        Reply::Told(Told::Trap(TrapText::ResourceNotPresent)),
+        Reply::Told(Told::Trap(TrapText::RequestedLength {
+            length: 65,
+            limit: 64,
+        })),
+        Reply::Told(Told::Exit(255)),
+        Reply::Ended,
+    ];
+    let text = text_of(alloc, &replies)?;
+    assert_eq!(rt;
+        text.as_slice(),
+        b"handle 4294967295\nok\nbytes 009fff\nbytes -\ncount 18446744073709551615\ntrue\nfalse\npending\nclosed\nfailed brokenpipe\ntrap resource not present\ntrap requested len 65 exceeds limit 64\nexit 255\nended\n".as_slice()
+    );
+    Ok(())
+}
+
+#[test]
+fn the_worker_replies(rt: HostRuntime) -> Result<(), Fail> {
+    let alloc = rt.alloc();
+    let replies = [
+        Reply::Worked(Worked::Captured(65536)),
+        Reply::Worked(Worked::Idle),
+        Reply::Worked(Worked::Gave(0)),
+        Reply::Worked(Worked::End),
+        Reply::Worked(Worked::Fault(IoKind::IsADirectory)),
+    ];
+    let text = text_of(alloc, &replies)?;
+    assert_eq!(rt;
+        text.as_slice(),
+        b"captured 65536\nidle\ngave 0\nend\nfault isadirectory\n".as_slice()
+    );
+    Ok(())
+}
+
+#[test]
+fn outputs_are_told(rt: HostRuntime) -> Result<(), Fail> {
+    let alloc = rt.alloc();
+    let mut text = Vec::new(alloc);
+    push_output(&mut text, b"Log_1", b"hi\n")?;
+    push_output(&mut text, b"B", b"")?;
+    assert_eq!(rt;
+        text.as_slice(),
+        b"output Log_1 68690a\noutput B -\n".as_slice()
+    );
+    Ok(())
+}
