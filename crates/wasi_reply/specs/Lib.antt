@@ -4,3 +4,4 @@ pub mod Lines
 pub mod Outputs
 pub mod Piece
 pub mod Reply
+pub mod lemmas

@@ -1,7 +1,7 @@
 use Rattle.std.proofs.Common.{◌≡◌, ◌∙◌, ap, sym, subst, Some}
 use Rattle.wasi_base.specs.Sink.{with_more}
 use Rattle.wasi_script.specs.Grammar.{AllStand, no_names, parsed, steps_of, IsGood, lines_of}
-use Rattle.wasi_script.specs.Standing.{stand_from}
+use Rattle.wasi_script.specs.laws.Standing.{stand_from}
 use Rattle.wasi_host.specs.Transcript.{transcript, told_after_run}
 use Rattle.wasi_host.specs.lemmas.Headline.{headline}
 use Rattle.wasi_host.specs.lemmas.Isolation.{alone}
