@@ -72,6 +72,12 @@ reading (Handed bytes) = Bytes bytes
 reading (Told kind) = told_fault kind
 reading AtEnd = Ended
 
+-- the bytes that it hands out
+abbrev pub bytes_read : Reading → List ℕ
+bytes_read (Bytes bytes) = bytes
+bytes_read Ended = []
+bytes_read (Fault kind) = []
+
 -- a read of size 0 gives no bytes and changes nothing
 abbrev pub reading_of : Shared → ℕ → Reading
 reading_of s zero = Bytes []
@@ -124,6 +130,12 @@ polling NothingYet = Pending
 polling (Handed bytes) = Polled bytes
 polling (Told kind) = PollFault kind
 polling AtEnd = Polled []
+
+-- the bytes that it hands out
+abbrev pub bytes_polled : Polling → List ℕ
+bytes_polled (Polled bytes) = bytes
+bytes_polled Pending = []
+bytes_polled (PollFault kind) = []
 
 -- the wait that it leaves
 abbrev pub wait_of : Met → ℕ → Option ℕ

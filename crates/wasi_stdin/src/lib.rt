@@ -3,12 +3,14 @@
 
 mod answer;
 mod delivery;
+mod laws;
 mod mode;
 mod stdin_core;
 mod wait;
 
 pub use answer::{Answer, Outcome, PolledRead};
 pub use delivery::deliver_from;
+pub use laws::{every_rule_keeps_the_invariant, faults_are_told_once, requests_only_grow};
 pub use mode::Mode;
 pub use stdin_core::{MOST_BYTES, StdinCore};
 pub use wait::Wait;

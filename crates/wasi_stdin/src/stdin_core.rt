@@ -1,5 +1,5 @@
 ghost use Rattle.std.specs.Prelude.{◌≡◌, ◌-◌, ◌^◌, ◌<◌, ◌≤◌, [], min, length, take, drop, IfOk, IsSomeAnd, None};
-ghost use Rattle.wasi_stdin.specs.Shared.{Shared, IsSound, counted, meeting_of, after_meeting, reading_in, reading_of, after_read, handed_by, skipped, skipped_in, capture_of, after_capture, delivered, outcome_given, FitsOutcome, mode_holding, is_waiting, polled_in, poll_of, after_poll, wait_after_poll, handed_by_poll, is_ready, after_ready, block_of, after_block, wait_after_block};
+ghost use Rattle.wasi_stdin.specs.Shared.{Shared, IsSound, counted, meeting_of, after_meeting, reading_in, reading_of, bytes_read, after_read, handed_by, skipped, skipped_in, capture_of, after_capture, delivered, outcome_given, FitsOutcome, mode_holding, is_waiting, polled_in, poll_of, bytes_polled, after_poll, wait_after_poll, handed_by_poll, is_ready, after_ready, block_of, after_block, wait_after_block};
 
 use crate::answer::{Answer, Meeting, Outcome, PolledRead};
 use crate::mode::Mode;
@@ -135,6 +135,7 @@ impl StdinCore {
     pub fn read(&mut self, size: u64, dst: &mut [u8]) -> Answer
         requires { min size (length self.old.held) ≤ length dst.old }
         ensures answer { reading_in result dst.new ≡ reading_of self.old size }
+        ensures count { handed_by result ≡ length (bytes_read (reading_of self.old size)) }
         ensures rest { drop (handed_by result) dst.new ≡ drop (handed_by result) dst.old }
         ensures after { self.new ≡ after_read self.old size }
     {
@@ -161,6 +162,7 @@ impl StdinCore {
     pub fn poll_read(&mut self, wait: &mut Wait, room: u64, dst: &mut [u8]) -> PolledRead
         requires { min room (length self.old.held) ≤ length dst.old }
         ensures answer { polled_in result dst.new ≡ poll_of self.old wait.old room }
+        ensures count { handed_by_poll result ≡ length (bytes_polled (poll_of self.old wait.old room)) }
         ensures rest { drop (handed_by_poll result) dst.new ≡ drop (handed_by_poll result) dst.old }
         ensures after { self.new ≡ after_poll self.old wait.old room }
         ensures wait { wait.new ≡ wait_after_poll self.old wait.old room }

@@ -16,7 +16,7 @@ use Rattle.std.specs.FinMap.{find, is_sorted, nat_cmp-IsAntisymmetric, get-from_
 use Rattle.std.specs.FinMap.Entries.{below_all}
 use Rattle.wasi_table.specs.declared.rows.Row.{Row}
 use Rattle.wasi_table.specs.Table.{Held, has_children, is_number}
-use Rattle.wasi_table.specs.Laws.{is_eq-nat_cmp, held-insert, held-remove}
+use Rattle.wasi_table.specs.laws.Kept.{is_eq-nat_cmp, held-insert, held-remove}
 use Rattle.wasi_table.specs.Rows.{held_in, held_rows, table_of, row_at, names, named}
 
 both : (a b : Bool) → a ≡ true → T b → T (a && b)

@@ -14,7 +14,7 @@ use Rattle.std.specs.FinMap as finite
 use Rattle.wasi_table.specs.declared.rows.Row.{Row}
 use Rattle.wasi_table.specs.Table.{Table, held_at, live_count, has_children, parent_in, number_of, next_after, freed_after, with_entry, with_pushed, without, push_refusal}
 use Rattle.wasi_table.specs.Sound.{IsTable}
-use Rattle.wasi_table.specs.Laws.{with_entry-IsTable, without-IsTable, pushed-IsTable, held-next_number, parent_live, live_positive}
+use Rattle.wasi_table.specs.laws.Kept.{with_entry-IsTable, without-IsTable, pushed-IsTable, held-next_number, parent_live, live_positive}
 use Rattle.wasi_table.specs.Rows.{held_in, held_rows, table_of, row_at, names, named, children_in, IsKept, IsRecount, IsAdded, CanAdd}
 use Rattle.wasi_table.proofs.RowFacts.{some_inj, held_opt, held_at-rows, len-rows, has_children-rows, rows-insert, rows-remove, turned}
 use Rattle.wasi_table.proofs.Recounts.{IsTakenOut, lowered}

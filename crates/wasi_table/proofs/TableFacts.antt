@@ -15,7 +15,7 @@ use Rattle.std.specs.FinMap.{nat_cmp-IsAntisymmetric, same_map, get-from_sorted,
 use Rattle.wasi_table.specs.declared.rows.Row.{Row}
 use Rattle.wasi_table.specs.declared.error.TableError.TheVariants.{NotPresent, WrongType}
 use Rattle.wasi_table.specs.Table.{Table, Held, held_at, is_live, first_from, live_count, has_children, new_table, got, of_kind}
-use Rattle.wasi_table.specs.Laws.{new_table-IsTable}
+use Rattle.wasi_table.specs.laws.Kept.{new_table-IsTable}
 use Rattle.wasi_table.specs.Sound.{IsTable}
 use Rattle.wasi_table.specs.Rows.{table_of, row_at, named, children_in, IsKept}
 use Rattle.wasi_table.proofs.RowFacts.{held_opt, held_at-rows, keys-rows, len-rows, has_children-rows}
