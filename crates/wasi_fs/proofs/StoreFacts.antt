@@ -129,18 +129,18 @@ abbrev told_of : TreeState → ℕ → Told
 told_of old total = record { least = 0; limits = Some (record { file = 1048576; all = 67108864; total = total }); planned = old.planned; faults = old.faults }
 
 is_write_of : (old : TreeState) (nodes : List Node) (file count : ℕ) (write : Write) (outcome : Result (List Node) ErrorCode) (r : Result (Unit {0}) StoreError)
-    → kind_at old.nodes file ≡ Some kinds.File → Agrees old file write outcome → Leaves old.nodes nodes r outcome → (r ≡ Err OutOfMemory → IsOk outcome)
+    → kind_at old.nodes file ≡ Some kinds.File → Agrees old file write outcome → Leaves old.nodes nodes r outcome
     → IsWrite old (with_nodes old nodes) file count write (counted r count)
-is_write_of old nodes file count (Fault c) outcome r k a l m = absurd a
-is_write_of old nodes file count (Refusal c) outcome (Ok done) k a l m = absurd (cc)
-is_write_of old nodes file count (Refusal c) outcome (Err (Code d)) k a l m = record {
+is_write_of old nodes file count (Fault c) outcome r k a l = absurd a
+is_write_of old nodes file count (Refusal c) outcome (Ok done) k a l = absurd (cc)
+is_write_of old nodes file count (Refusal c) outcome (Err (Code d)) k a l = record {
   takes = let same : c ≡ d = cc (sym a ∙ l.0) in ap Err same;
   tells = ap (λ ns. tree_told (with_nodes old ns)) l.1;
   changes = λ f. ap (λ ns. bytes_at ns f) l.1 ∙ sym (same_at (bytes_at old.nodes) f file);
   rest = ap (with_nodes old) l.1;
 }
-is_write_of old nodes file count (Refusal c) outcome (Err OutOfMemory) k a l m = let ok : is_ok outcome ≡ true = m refl in absurd (cc)
-is_write_of old nodes file count Nothing outcome (Ok done) k a l m =
+is_write_of old nodes file count (Refusal c) outcome (Err OutOfMemory) k a l = let ok : is_ok outcome ≡ true = l.0 in absurd (cc)
+is_write_of old nodes file count Nothing outcome (Ok done) k a l =
     let same : nodes ≡ old.nodes = cc in
     record {
       takes = refl;
@@ -148,14 +148,14 @@ is_write_of old nodes file count Nothing outcome (Ok done) k a l m =
       changes = λ f. ap (λ ns. bytes_at ns f) same ∙ sym (same_at (bytes_at old.nodes) f file);
       rest = ap (with_nodes old) same;
     }
-is_write_of old nodes file count Nothing outcome (Err (Code d)) k a l m = let e : outcome ≡ Err d = l.0 in absurd (cc)
-is_write_of old nodes file count Nothing outcome (Err OutOfMemory) k a l m = record {
+is_write_of old nodes file count Nothing outcome (Err (Code d)) k a l = let e : outcome ≡ Err d = l.0 in absurd (cc)
+is_write_of old nodes file count Nothing outcome (Err OutOfMemory) k a l = record {
   takes = refl;
-  tells = ap (λ ns. tree_told (with_nodes old ns)) l;
-  changes = λ f. ap (λ ns. bytes_at ns f) l;
-  rest = ap (with_nodes old) l;
+  tells = ap (λ ns. tree_told (with_nodes old ns)) l.1;
+  changes = λ f. ap (λ ns. bytes_at ns f) l.1;
+  rest = ap (with_nodes old) l.1;
 }
-is_write_of old nodes file count (Bytes now) outcome (Ok done) k a l m =
+is_write_of old nodes file count (Bytes now) outcome (Ok done) k a l =
     let e : outcome ≡ Ok (with_body (body_with_bytes now) old.nodes file) = a.0 in
     let same : nodes ≡ with_body (body_with_bytes now) old.nodes file = cc in
     record {
@@ -164,28 +164,28 @@ is_write_of old nodes file count (Bytes now) outcome (Ok done) k a l m =
       changes = λ f. ap (λ ns. bytes_at ns f) same ∙ bytes_changed now old.nodes f file k;
       rest = ap (with_nodes old) same;
     }
-is_write_of old nodes file count (Bytes now) outcome (Err (Code d)) k a l m =
+is_write_of old nodes file count (Bytes now) outcome (Err (Code d)) k a l =
     let e : outcome ≡ Ok (with_body (body_with_bytes now) old.nodes file) = a.0 in
     let f : outcome ≡ Err d = l.0 in absurd (cc)
-is_write_of old nodes file count (Bytes now) outcome (Err OutOfMemory) k a l m = record {
+is_write_of old nodes file count (Bytes now) outcome (Err OutOfMemory) k a l = record {
   takes = refl;
-  tells = ap (λ ns. tree_told (with_nodes old ns)) l;
-  changes = λ f. ap (λ ns. bytes_at ns f) l;
-  rest = ap (with_nodes old) l;
+  tells = ap (λ ns. tree_told (with_nodes old ns)) l.1;
+  changes = λ f. ap (λ ns. bytes_at ns f) l.1;
+  rest = ap (with_nodes old) l.1;
 }
 
 pub is_write : (old : TreeState) (nodes : List Node) (file : ℕ) (to : At) (more : List ℕ) (r : Result (Unit {0}) StoreError) → old.planned ≡ None → HasFile old file
-    → Leaves old.nodes nodes r (wrote old.nodes file to more) → (r ≡ Err OutOfMemory → IsOk (wrote old.nodes file to more))
+    → Leaves old.nodes nodes r (wrote old.nodes file to more)
     → IsWrite old (with_nodes old nodes) file (length more) (write_of (tree_told old) (bytes_at old.nodes file) to more) (counted r (length more))
-is_write old nodes file to more r e k l m =
-    is_write_of old nodes file (length more) (write_of (tree_told old) (bytes_at old.nodes file) to more) (wrote old.nodes file to more) r k (agree old file to more e) l m
+is_write old nodes file to more r e k l =
+    is_write_of old nodes file (length more) (write_of (tree_told old) (bytes_at old.nodes file) to more) (wrote old.nodes file to more) r k (agree old file to more e) l
 
 -- the same, of what the calls answered
 pub is_written : (old new : TreeState) (file : ℕ) (to : At) (more : List ℕ) (r : Result (Unit {0}) StoreError) (answer : Result ℕ StoreError) → new ≡ with_nodes old new.nodes → answer ≡ counted r (length more)
-    → old.planned ≡ None → HasFile old file → Leaves old.nodes new.nodes r (wrote old.nodes file to more) → (r ≡ Err OutOfMemory → IsOk (wrote old.nodes file to more))
+    → old.planned ≡ None → HasFile old file → Leaves old.nodes new.nodes r (wrote old.nodes file to more)
     → IsWrite old new file (length more) (write_of (tree_told old) (bytes_at old.nodes file) to more) answer
-is_written old new file to more r answer rest told e k l m =
+is_written old new file to more r answer rest told e k l =
     let write : Write = write_of (tree_told old) (bytes_at old.nodes file) to more in
     let P : TreeState → Type 0 = λ t. IsWrite old t file (length more) write answer in
     let Q : Result ℕ StoreError → Type 0 = λ a. IsWrite old (with_nodes old new.nodes) file (length more) write a in
-    subst P (sym rest) (subst Q (sym told) (is_write old new.nodes file to more r e k l m))
+    subst P (sym rest) (subst Q (sym told) (is_write old new.nodes file to more r e k l))

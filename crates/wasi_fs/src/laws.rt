@@ -1,4 +1,4 @@
-ghost use Rattle.std.specs.Prelude.{ℕ, List, IfOk};
+ghost use Rattle.std.specs.Prelude.{ℕ, Bool, List, IfOk};
 ghost use Rattle.wasi_clocks.specs.declared.wall_times.WallTime.{WallTime};
 ghost use Rattle.wasi_fs_types.specs.declared.descriptor.NewTimestamp.{NewTimestamp};
 ghost use Rattle.wasi_fs_types.specs.declared.flags.PathFlags.{PathFlags};
@@ -20,7 +20,7 @@ pub fn calls_keep_kinds()
     ensures link { (nodes : List Node) (at : Descriptor) (flags : PathFlags) (path : List ℕ) (to : Descriptor) (to_path : List ℕ) → IfOk (link_made nodes at flags path to to_path) (KindsStay nodes) }
     ensures remove { (nodes : List Node) (at : Descriptor) (path : List ℕ) → IfOk (removed nodes at path) (KindsStay nodes) }
     ensures unlink { (nodes : List Node) (at : Descriptor) (path : List ℕ) → IfOk (file_unlinked nodes at path) (KindsStay nodes) }
-    ensures rename { (nodes : List Node) (at : Descriptor) (path : List ℕ) (to : Descriptor) (to_path : List ℕ) → IfOk (node_renamed nodes at path to to_path) (KindsStay nodes) }
+    ensures rename { (below : ℕ → ℕ → Bool) (nodes : List Node) (at : Descriptor) (path : List ℕ) (to : Descriptor) (to_path : List ℕ) → IfOk (node_renamed below nodes at path to to_path) (KindsStay nodes) }
 {
     kinds_stay();
 }

@@ -1,11 +1,10 @@
-ghost use Rattle.std.specs.Prelude.{◌≡◌, ◌≤◌, ℕ, List, length, cond, eqb, Err, IsOk};
+ghost use Rattle.std.specs.Prelude.{◌≡◌, ◌≤◌, ℕ, List, length, cond, eqb};
 ghost use Rattle.wasi_fs.specs.Stores.{Told, given, Gave, after_read, told_after_fault, write_of, taken, Took, after_write, unless_no_memory, counted, bytes_after, told_after_write};
 ghost use Rattle.wasi_fs.specs.Trees.{after_fault, with_nodes};
 ghost use Rattle.wasi_fs.specs.TreeStore.{tree_told, HasFile, bytes_of_file, with_file};
 ghost use Rattle.wasi_fs_nodes.specs.Changes.{wrote};
 ghost use Rattle.wasi_fs_nodes.specs.Outcome.{Leaves};
 ghost use Rattle.wasi_fs_nodes.specs.Shape.{KindsStay};
-ghost use Rattle.wasi_fs_nodes.specs.declared.store_error.StoreError.TheVariants.{OutOfMemory};
 
 use crate::tree::Tree;
 use wasi_fs_nodes::{At, StoreError, kinds_stay};
@@ -83,7 +82,6 @@ impl Tree {
     fn write_file(&mut self, file: u64, at: At, bytes: &[u8]) -> Result<(), StoreError>
         requires { HasFile self.old file }
         ensures outcome { Leaves self.old.nodes self.new.nodes result (wrote self.old.nodes file at bytes.now) }
-        ensures memory { result ≡ Err OutOfMemory → IsOk (wrote self.old.nodes file at bytes.now) }
         ensures rest { self.new ≡ with_nodes self.old self.new.nodes }
         ensures kinds { KindsStay self.old.nodes self.new.nodes }
     {
