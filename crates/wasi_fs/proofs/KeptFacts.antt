@@ -31,7 +31,7 @@ use Rattle.wasi_fs.specs.declared.descriptor.Descriptor.TheVariants as descripto
 use Rattle.wasi_fs.specs.declared.opening.Opening.{Opening}
 use Rattle.wasi_fs.proofs.OutcomeFacts.{always_leaves}
 
-kept_by_kinds : (old new : TreeState) → new.number ≡ old.number → KindsStay old.nodes new.nodes → KeepsDescriptors old new
+pub kept_by_kinds : (old new : TreeState) → new.number ≡ old.number → KindsStay old.nodes new.nodes → KeepsDescriptors old new
 kept_by_kinds old new e k (descriptor.File file) h = record { number = h.number ∙ sym e; made = k file.node kind.File h.made }
 kept_by_kinds old new e k (descriptor.Dir dir) h = record { number = h.number ∙ sym e; made = k dir.node kind.Directory h.made }
 

@@ -3,3 +3,4 @@ mod KeptFacts
 mod ListFacts
 pub mod StayFacts
 mod StoreFacts
+mod StoredFacts

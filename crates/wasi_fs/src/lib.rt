@@ -22,12 +22,13 @@ mod writable;
 
 pub use descriptor::{Descriptor, Dir, File};
 pub use entries::{DirectoryEntries, DirectoryEntry};
-pub use laws::calls_keep_kinds;
+pub use laws::{calls_keep_kinds, stores_keep_descriptors};
 pub use list::map_dir_entry;
 pub use memory_store::MemStore;
 pub use store::Store;
 pub use tree::Tree;
 pub use wasi_fs_nodes::{At, StoreError};
+pub use wasi_fs_types::p3;
 pub use wasi_fs_types::{
     Advice, CwdText, DescriptorFlags, DescriptorStat, DescriptorType, ErrorCode, FilesystemError,
     FilesystemResult, FsPerms, MetadataHashValue, NewTimestamp, OpenFlags, OpenMode, PathFlags,
