@@ -1,5 +1,5 @@
 -- Going up from a directory tells whether it lies below another one.
-use Rattle.std.proofs.Common.{◌≡◌, ◌≢◌, ◌↔◌, IsTrue, ℕ, zero, suc, ◌+◌, ◌-◌, ◌<◌, ◌≤◌, List, [], ◌∷◌, length, ◌⊎◌, inl, inr, Option, Some, None, Result, Ok, Err, Bool, true, false, cond, ◌&&◌, ◌||◌, eqb, refl, ap, sym, subst, ◌∙◌, arith}
+use Rattle.std.proofs.Common.{◌≡◌, ◌≢◌, ℕ, zero, suc, ◌+◌, ◌-◌, ◌<◌, ◌≤◌, List, [], ◌∷◌, length, ◌⊎◌, inl, inr, Option, Some, None, Result, Ok, Bool, true, false, cond, ◌&&◌, ◌||◌, eqb, refl, ap, sym, subst, ◌∙◌, arith}
 use Rattle.std.proofs.lemmas.Bool.{false≢true}
 use Rattle.std.proofs.lemmas.Bool.Decides.{nat_tests}
 use Rattle.std.proofs.lemmas.Map.Keys.{IsDistinct-cons}
@@ -14,8 +14,8 @@ use Rattle.wasi_fs_nodes.specs.Shape.{IsSound}
 use Rattle.wasi_fs_nodes.specs.laws.Climbs.{climbs_to, climbs}
 use Rattle.wasi_fs_nodes.specs.declared.node.Node.{Node}
 use Rattle.wasi_fs_nodes.specs.declared.node.Kind.TheVariants as kinds
-use Rattle.wasi_fs_nodes.proofs.NodeFacts.{some_names, some_links}
-use Rattle.wasi_fs_nodes.proofs.SoundFacts.{named_once, some_holder, has_entry, made_links}
+use Rattle.wasi_fs_nodes.proofs.NodeFacts.{some_links}
+use Rattle.wasi_fs_nodes.proofs.SoundFacts.{named_once, some_holder, has_entry}
 
 -- A WAY UP: the directories from one to another, each in the next
 IsWay : List Node → ℕ → ℕ → List ℕ → Type 0

@@ -6,7 +6,7 @@ use Rattle.std.specs.Map.{keys_of}
 use Rattle.wasi_clocks.specs.declared.datetimes.Datetime.{Datetime}
 use Rattle.wasi_fs_nodes.specs.Names.{IsAscending, entry_of}
 use Rattle.wasi_fs_nodes.specs.Nodes.{bytes_at, kind_at, is_directory, parent_at, entry_at, names_in, names_at, bytes_in, links_of, total_bytes}
-use Rattle.wasi_fs_nodes.specs.Bodies.{body_written, body_resized, with_written, with_size, with_body, body_with_name, body_with_other, body_with_parent, body_without_name, with_name, with_target, without_name, with_parent, with_times}
+use Rattle.wasi_fs_nodes.specs.Bodies.{body_written, body_resized, with_written, with_size, with_body, body_with_name, body_with_other, body_with_parent, body_without_name, with_name, without_name, with_times}
 use Rattle.wasi_fs_nodes.specs.Shape.{IsSound, IsFresh}
 use Rattle.wasi_fs_nodes.specs.Changes.{root_alone, put_at, moved}
 use Rattle.wasi_fs_nodes.specs.Counts.{nodes_in, links_list, IsCounted}

@@ -7,7 +7,7 @@ use Rattle.std.specs.Map.{keys_of}
 use Rattle.wasi_clocks.specs.declared.datetimes.Datetime.{Datetime}
 use Rattle.wasi_fs_nodes.specs.Names.{IsAscending, entry_of}
 use Rattle.wasi_fs_nodes.specs.Nodes.{body_at, kind_of, kind_of_body, kind_at, is_directory, is_directory_kind, names_in, names_of, names_at, entry_at, names_for, links_of, parent_in, parent_of, parent_at}
-use Rattle.wasi_fs_nodes.specs.Bodies.{with_body, body_with_name, body_with_other, body_with_parent, body_without_name, with_name, with_target, without_name, with_parent, with_new, with_times}
+use Rattle.wasi_fs_nodes.specs.Bodies.{with_body, body_with_name, body_with_other, body_with_parent, body_without_name, with_name, without_name, with_parent, with_new, with_times}
 use Rattle.wasi_fs_nodes.specs.Changes.{put_at, moved}
 use Rattle.wasi_fs_nodes.specs.Shape.{IsRooted, IsSound, IsFresh}
 use Rattle.wasi_fs_nodes.specs.declared.node.Node.{Node}
@@ -16,7 +16,7 @@ use Rattle.wasi_fs_nodes.specs.declared.node.Body.TheVariants.{File, Directory, 
 use Rattle.wasi_fs_nodes.specs.declared.node.Kind.{Kind}
 use Rattle.wasi_fs_nodes.specs.declared.node.Kind.TheVariants as kinds
 use Rattle.wasi_fs_nodes.proofs.EntryFacts.{no_names_ascend}
-use Rattle.wasi_fs_nodes.proofs.NodeFacts.{some_names, some_links}
+use Rattle.wasi_fs_nodes.proofs.NodeFacts.{some_names}
 use Rattle.wasi_fs_nodes.proofs.ShapeFacts.{Keeps, keeps_name, keeps_other, keeps_taken, kind_at-with_body, parent_at-with_body, length-with_body, rooted-with_body, rooted-push, rooted-with_parent, rooted-with_times, parent_kind, body_at-with_times, kind_at-with_times}
 use Rattle.wasi_fs_nodes.proofs.SumFacts.{links_of-push, links_of-kept, links_of-with_name, links_of-without_name, links_of-with_target, links_of-with_times, names_for-without_entry}
 use Rattle.wasi_fs_nodes.proofs.MoveFacts.{kept_put_at, kind_at-moved, length-moved}

@@ -1,4 +1,4 @@
-ghost use Rattle.std.specs.Prelude.{◌≡◌, ℕ, Bool, ◌+◌, ◌<◌, ◌≤◌, length, Some, None, Ok, Err, IsOk, IfOk, OnOk};
+ghost use Rattle.std.specs.Prelude.{◌≡◌, ℕ, Bool, ◌+◌, ◌<◌, ◌≤◌, length, Some, None, Ok, Err, IfOk, OnOk};
 ghost use Rattle.wasi_fs_nodes.specs.Nodes.{kind_at, bytes_at, entry_at, total_bytes, TellsBelow};
 ghost use Rattle.wasi_fs_nodes.specs.Outcome.{Leaves, LeavesAlways};
 ghost use Rattle.wasi_fs_nodes.specs.Changes.{may_make, made, new_file, new_directory, new_link, linked, unlinked, directory_removed, renamed, target_refusal, moved, sized, wrote, wrote_from};

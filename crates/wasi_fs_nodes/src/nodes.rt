@@ -1,4 +1,4 @@
-ghost use Rattle.std.specs.Prelude.{◌≡◌, ◌<◌, ◌≤◌, ◌++◌, length, take, drop, Some, None, IfOk, OnOk, IfSome, MatchOption};
+ghost use Rattle.std.specs.Prelude.{◌≡◌, ◌<◌, ◌≤◌, length, take, drop, Some, None, IfOk, OnOk, IfSome, MatchOption};
 ghost use Rattle.std.specs.Map.{keys_of};
 ghost use Rattle.wasi_fs_nodes.specs.Names.{IsAscending, has_no_names};
 ghost use Rattle.wasi_fs_nodes.specs.Nodes.{names_at, kind_at, is_directory, entry_at, parent_at, links_of, total_bytes, is_removed, bytes_at, text_at};

@@ -1,4 +1,4 @@
-use Rattle.std.proofs.Common.{List, Result, sym, subst}
+use Rattle.std.proofs.Common.{List, Result, subst}
 use Rattle.wasi_fs_types.specs.declared.error_code.ErrorCode.{ErrorCode}
 use Rattle.wasi_fs_nodes.specs.Outcome.{Leaves}
 use Rattle.wasi_fs_nodes.specs.laws.Climbs.{climbs}
