@@ -1,27 +1,13 @@
 -- A read or a write of a file keeps each descriptor of the tree.
-use Rattle.std.proofs.Common.{◌≡◌, ℕ, zero, suc, List, [], ◌∷◌, Option, Some, Result, Ok, Err, refl, ap, ◌∙◌}
+use Rattle.std.proofs.Common.{ℕ, List, Result, Ok, Err, refl, ◌∙◌}
 use Rattle.wasi_fs_types.specs.declared.error_code.ErrorCode.{ErrorCode}
-use Rattle.wasi_fs_nodes.specs.Bodies.{with_body}
-use Rattle.wasi_fs_nodes.specs.Nodes.{kind_of, kind_at}
-use Rattle.wasi_fs_nodes.specs.declared.node.Node.{Node}
-use Rattle.wasi_fs_nodes.specs.declared.node.Body.{Body}
-use Rattle.wasi_fs_nodes.specs.declared.node.Body.TheVariants.{File, Directory, Link}
 use Rattle.wasi_fs_nodes.specs.declared.store_error.StoreError.{StoreError}
 use Rattle.wasi_fs_nodes.specs.declared.store_error.StoreError.TheVariants as store
 use Rattle.wasi_fs.specs.Stores.{Write, Fault, Refusal, Nothing, Bytes, after_read, after_write, unless_no_memory}
-use Rattle.wasi_fs.specs.TreeStore.{body_with_bytes, with_file}
+use Rattle.wasi_fs.specs.TreeStore.{with_file}
+use Rattle.wasi_fs.specs.laws.Bound.{kinds_same}
 use Rattle.wasi_fs.specs.Trees.{TreeState, after_fault, KeepsDescriptors}
 use Rattle.wasi_fs.proofs.KeptFacts.{kept_by_kinds}
-
-same_kind : (now : List ℕ) (b : Body) → kind_of (body_with_bytes now b) ≡ kind_of b
-same_kind now b = elim b as (λ b. kind_of (body_with_bytes now b) ≡ kind_of b) [ File x ↦ refl | Directory p x ↦ refl | Link x ↦ refl ]
-
-kinds_same : (now : List ℕ) (nodes : List Node) (file n : ℕ) → kind_at (with_body (body_with_bytes now) nodes file) n ≡ kind_at nodes n
-kinds_same now [] file n = refl
-kinds_same now (x ∷ nodes) zero zero = ap Some (same_kind now x.body)
-kinds_same now (x ∷ nodes) zero (suc n) = refl
-kinds_same now (x ∷ nodes) (suc file) zero = refl
-kinds_same now (x ∷ nodes) (suc file) (suc n) = kinds_same now nodes file n
 
 fault_keeps : (tree : TreeState) → KeepsDescriptors tree (after_fault tree)
 fault_keeps tree = kept_by_kinds tree (after_fault tree) refl (λ n k e. e)
