@@ -1,6 +1,6 @@
 -- What a write to the nodes' file is to a tree as a store.
-use Rattle.std.proofs.Common.{◌≡◌, ◌≢◌, ℕ, zero, suc, ◌+◌, ◌-◌, ◌≤◌, List, [], ◌∷◌, length, Option, Some, None, Result, Ok, Err, IsOk, is_ok, Bool, true, false, cond, eqb, ltb, refl, ap, sym, subst, ◌∙◌, arith}
-use Rattle.std.proofs.lemmas.Bool.{eqb-true, eqb-false}
+use Rattle.std.proofs.Common.{◌≡◌, ℕ, zero, suc, ◌+◌, ◌-◌, ◌≤◌, List, [], ◌∷◌, length, Option, Some, None, Result, Ok, Err, is_ok, Bool, true, false, cond, eqb, ltb, refl, ap, sym, subst, ◌∙◌, arith}
+use Rattle.std.proofs.lemmas.Bool.{eqb-true}
 use Rattle.std.proofs.lemmas.Bool.Decides.{nat_tests}
 use Rattle.std.proofs.lemmas.List.{length-append, length-take, length-drop, length-replicate}
 use Rattle.wasi_base.specs.declared.io_kind.IoKind.{IoKind}
@@ -9,7 +9,7 @@ use Rattle.wasi_fs_types.specs.declared.error_code.ErrorCode.TheVariants as code
 use Rattle.wasi_fs_nodes.specs.Bodies.{with_body, with_written, body_written}
 use Rattle.wasi_fs_nodes.specs.Changes.{wrote, wrote_from, place_of, has_no_room, file_limit}
 use Rattle.wasi_fs_nodes.specs.Content.{written}
-use Rattle.wasi_fs_nodes.specs.Nodes.{kind_of, kind_at, bytes_in, bytes_at, total_bytes}
+use Rattle.wasi_fs_nodes.specs.Nodes.{kind_at, bytes_in, bytes_at}
 use Rattle.wasi_fs_nodes.specs.Outcome.{unless, Leaves}
 use Rattle.wasi_fs_nodes.specs.declared.at.At.{At}
 use Rattle.wasi_fs_nodes.specs.declared.at.At.TheVariants as at
@@ -19,7 +19,7 @@ use Rattle.wasi_fs_nodes.specs.declared.node.Body.TheVariants.{File, Directory, 
 use Rattle.wasi_fs_nodes.specs.declared.node.Kind.TheVariants as kinds
 use Rattle.wasi_fs_nodes.specs.declared.store_error.StoreError.{StoreError}
 use Rattle.wasi_fs_nodes.specs.declared.store_error.StoreError.TheVariants.{Code, OutOfMemory}
-use Rattle.wasi_fs.specs.Stores.{Told, Write, Fault, Refusal, Nothing, Bytes, fault_of, is_too_low, place_in, bytes_unless, write_unless, written_from, write_of, taken, Took, after_write, unless_no_memory, counted, bytes_after, told_after_write}
+use Rattle.wasi_fs.specs.Stores.{Write, Fault, Refusal, Nothing, Bytes, fault_of, is_too_low, place_in, bytes_unless, write_unless, written_from, write_of, taken, Took, after_write, unless_no_memory, counted, bytes_after, told_after_write}
 use Rattle.wasi_fs.specs.Trees.{TreeState, with_nodes, after_fault}
 use Rattle.wasi_fs.specs.TreeStore.{tree_told, HasFile, body_with_bytes, with_file}
 use Rattle.wasi_fs.specs.laws.Bound.{told_of, bytes_changed, total_grown}

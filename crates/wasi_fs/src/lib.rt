@@ -28,8 +28,7 @@ pub use memory_store::MemStore;
 pub use store::Store;
 pub use tree::Tree;
 pub use wasi_fs_nodes::{At, StoreError};
-pub use wasi_fs_types::p3;
 pub use wasi_fs_types::{
     Advice, CwdText, DescriptorFlags, DescriptorStat, DescriptorType, ErrorCode, FilesystemError,
-    FilesystemResult, FsPerms, MetadataHashValue, NewTimestamp, OpenFlags, OpenMode, PathFlags,
+    FilesystemResult, FsPerms, MetadataHashValue, NewTimestamp, OpenFlags, OpenMode, PathFlags, p3,
 };
