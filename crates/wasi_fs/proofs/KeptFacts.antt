@@ -23,14 +23,15 @@ use Rattle.wasi_fs_paths.specs.Paths.{Place, Inside, Named, resolved}
 use Rattle.wasi_fs.specs.Calls.{added_at, added, there_or_new}
 use Rattle.wasi_fs.specs.Flags.{follows, creates, wants_directory, truncates, wants_write}
 use Rattle.wasi_fs.specs.Opening.{wants_new, well_asked, directory_opened_or_refused, emptied_if, opened_kind, opened_at, opened}
-use Rattle.wasi_fs.specs.Outcome.{Leaves, Gives}
+use Rattle.wasi_fs.specs.Outcome.{Leaves, LeavesAlways, Gives}
 use Rattle.wasi_fs.specs.Times.{time_of}
 use Rattle.wasi_fs.specs.Trees.{TreeState, with_nodes, IsOf, KeepsDescriptors}
 use Rattle.wasi_fs.specs.declared.descriptor.Descriptor.{Descriptor}
 use Rattle.wasi_fs.specs.declared.descriptor.Descriptor.TheVariants as descriptor
 use Rattle.wasi_fs.specs.declared.opening.Opening.{Opening}
+use Rattle.wasi_fs.proofs.OutcomeFacts.{always_leaves}
 
-kept_by_kinds : (old new : TreeState) → new.number ≡ old.number → KindsStay old.nodes new.nodes → KeepsDescriptors old new
+pub kept_by_kinds : (old new : TreeState) → new.number ≡ old.number → KindsStay old.nodes new.nodes → KeepsDescriptors old new
 kept_by_kinds old new e k (descriptor.File file) h = record { number = h.number ∙ sym e; made = k file.node kind.File h.made }
 kept_by_kinds old new e k (descriptor.Dir dir) h = record { number = h.number ∙ sym e; made = k dir.node kind.Directory h.made }
 
@@ -46,7 +47,11 @@ pub left_kept : {A : Type 0} (old new : TreeState) (r : Result A (TrappableError
 left_kept old new (Ok a) outcome h k = kept_by_kinds old new (ap (λ (t : TreeState). t.number) h.1) (stay_of (KindsStay old.nodes) new.nodes outcome h.0 k)
 left_kept old new (Err (Normal code)) outcome h k = kept_same old new h.1
 left_kept old new (Err (Trap text)) outcome h k = absurd h
-left_kept old new (Err OutOfMemory) outcome h k = kept_same old new h
+left_kept old new (Err OutOfMemory) outcome h k = kept_same old new h.1
+
+pub always_kept : {A : Type 0} (old new : TreeState) (r : Result A (TrappableError ErrorCode)) (outcome : Result (List Node) ErrorCode)
+    → LeavesAlways old new r outcome → IfOk outcome (KindsStay old.nodes) → KeepsDescriptors old new
+always_kept old new r outcome h k = left_kept old new r outcome (always_leaves old new r outcome h) k
 
 gave_of : {A : Type 0} (P : A × List Node → Type 0) (a : A) (nodes : List Node) (outcome : Result (A × List Node) ErrorCode) → outcome ≡ Ok (a, nodes) → IfOk outcome P → P (a, nodes)
 gave_of {A} P a nodes outcome e h = let Q : Result (A × List Node) ErrorCode → Type 0 = λ r. IfOk r P in subst Q e h
@@ -56,7 +61,7 @@ pub gave_kept : {A : Type 0} (old new : TreeState) (r : Result A (TrappableError
 gave_kept old new (Ok a) outcome h k = kept_by_kinds old new (ap (λ (t : TreeState). t.number) h.1) (gave_of (λ o. KindsStay old.nodes o.1) a new.nodes outcome h.0 k)
 gave_kept old new (Err (Normal code)) outcome h k = kept_same old new h.1
 gave_kept old new (Err (Trap text)) outcome h k = absurd h
-gave_kept old new (Err OutOfMemory) outcome h k = kept_same old new h
+gave_kept old new (Err OutOfMemory) outcome h k = kept_same old new h.1
 
 -- what was opened is of the tree that is left
 pub gave_of_tree : (old new : TreeState) (r : Result Descriptor (TrappableError ErrorCode)) (outcome : Result (Descriptor × List Node) ErrorCode)

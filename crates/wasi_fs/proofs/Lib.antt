@@ -1,6 +1,6 @@
 mod OutcomeFacts
 mod KeptFacts
 mod ListFacts
-pub mod ChangeFacts
 pub mod StayFacts
 mod StoreFacts
+mod StoredFacts

@@ -42,7 +42,7 @@ abbrev pub RemovedStays : Type 0
 RemovedStays = (nodes : List Node) (dir : ℕ) (name : List ℕ) → IfOk (directory_removed nodes dir name) (KindsStay nodes)
 
 abbrev pub RenamedStays : Type 0
-RenamedStays = (nodes : List Node) (dir : ℕ) (name : List ℕ) (to : ℕ) (to_name : List ℕ) → IfOk (renamed nodes dir name to to_name) (KindsStay nodes)
+RenamedStays = (below : ℕ → ℕ → Bool) (nodes : List Node) (dir : ℕ) (name : List ℕ) (to : ℕ) (to_name : List ℕ) → IfOk (renamed below nodes dir name to to_name) (KindsStay nodes)
 
 abbrev pub SizedStays : Type 0
 SizedStays = (nodes : List Node) (file size : ℕ) → IfOk (sized nodes file size) (KindsStay nodes)
@@ -103,12 +103,12 @@ pub unlink_stays : UnlinkedStays → (nodes : List Node) (at : Descriptor) (path
 unlink_stays law nodes at path = if_then (KindsStay nodes) (as_writable_directory at) _ (λ dir.
     if_then (KindsStay nodes) (resolved nodes dir.node there path) (file_unlinked_at nodes) (unlinked_by_place law nodes))
 
-renamed_by_place : RenamedStays → (nodes : List Node) (from to : Place) → IfOk (renamed_at nodes from to) (KindsStay nodes)
-renamed_by_place law nodes (Inside dir) to = tt
-renamed_by_place law nodes (Named from name n) (Inside to) = tt
-renamed_by_place law nodes (Named from name n) (Named to to_name target) = law nodes from name to to_name
+renamed_by_place : RenamedStays → (below : ℕ → ℕ → Bool) (nodes : List Node) (from to : Place) → IfOk (renamed_at below nodes from to) (KindsStay nodes)
+renamed_by_place law below nodes (Inside dir) to = tt
+renamed_by_place law below nodes (Named from name n) (Inside to) = tt
+renamed_by_place law below nodes (Named from name n) (Named to to_name target) = law below nodes from name to to_name
 
-pub rename_stays : RenamedStays → (nodes : List Node) (at : Descriptor) (path : List ℕ) (to : Descriptor) (to_path : List ℕ) → IfOk (node_renamed nodes at path to to_path) (KindsStay nodes)
-rename_stays law nodes at path to to_path = if_then (KindsStay nodes) (as_writable_directories at to) _ (λ dirs.
+pub rename_stays : RenamedStays → (below : ℕ → ℕ → Bool) (nodes : List Node) (at : Descriptor) (path : List ℕ) (to : Descriptor) (to_path : List ℕ) → IfOk (node_renamed below nodes at path to to_path) (KindsStay nodes)
+rename_stays law below nodes at path to to_path = if_then (KindsStay nodes) (as_writable_directories at to) _ (λ dirs.
     if_then (KindsStay nodes) (resolved nodes dirs.0.node there path) _ (λ from.
-    if_then (KindsStay nodes) (resolved nodes dirs.1.node there_or_new to_path) (renamed_at nodes from) (renamed_by_place law nodes from)))
+    if_then (KindsStay nodes) (resolved nodes dirs.1.node there_or_new to_path) (renamed_at below nodes from) (renamed_by_place law below nodes from)))

@@ -1,6 +1,6 @@
 -- What a write to the nodes' file is to a tree as a store.
-use Rattle.std.proofs.Common.{◌≡◌, ◌≢◌, ℕ, zero, suc, ◌+◌, ◌-◌, ◌≤◌, List, [], ◌∷◌, length, Option, Some, None, Result, Ok, Err, IsOk, is_ok, Bool, true, false, cond, eqb, ltb, refl, ap, sym, subst, ◌∙◌, arith}
-use Rattle.std.proofs.lemmas.Bool.{eqb-true, eqb-false}
+use Rattle.std.proofs.Common.{◌≡◌, ℕ, zero, suc, ◌+◌, ◌-◌, ◌≤◌, List, [], ◌∷◌, length, Option, Some, None, Result, Ok, Err, is_ok, Bool, true, false, cond, eqb, ltb, refl, ap, sym, subst, ◌∙◌, arith}
+use Rattle.std.proofs.lemmas.Bool.{eqb-true}
 use Rattle.std.proofs.lemmas.Bool.Decides.{nat_tests}
 use Rattle.std.proofs.lemmas.List.{length-append, length-take, length-drop, length-replicate}
 use Rattle.wasi_base.specs.declared.io_kind.IoKind.{IoKind}
@@ -9,7 +9,7 @@ use Rattle.wasi_fs_types.specs.declared.error_code.ErrorCode.TheVariants as code
 use Rattle.wasi_fs_nodes.specs.Bodies.{with_body, with_written, body_written}
 use Rattle.wasi_fs_nodes.specs.Changes.{wrote, wrote_from, place_of, has_no_room, file_limit}
 use Rattle.wasi_fs_nodes.specs.Content.{written}
-use Rattle.wasi_fs_nodes.specs.Nodes.{kind_of, kind_at, bytes_in, bytes_at, total_bytes}
+use Rattle.wasi_fs_nodes.specs.Nodes.{kind_at, bytes_in, bytes_at}
 use Rattle.wasi_fs_nodes.specs.Outcome.{unless, Leaves}
 use Rattle.wasi_fs_nodes.specs.declared.at.At.{At}
 use Rattle.wasi_fs_nodes.specs.declared.at.At.TheVariants as at
@@ -19,9 +19,10 @@ use Rattle.wasi_fs_nodes.specs.declared.node.Body.TheVariants.{File, Directory, 
 use Rattle.wasi_fs_nodes.specs.declared.node.Kind.TheVariants as kinds
 use Rattle.wasi_fs_nodes.specs.declared.store_error.StoreError.{StoreError}
 use Rattle.wasi_fs_nodes.specs.declared.store_error.StoreError.TheVariants.{Code, OutOfMemory}
-use Rattle.wasi_fs.specs.Stores.{Told, Write, Fault, Refusal, Nothing, Bytes, fault_of, is_below, place_in, bytes_unless, write_unless, written_from, write_of, taken, Took, after_write, unless_no_memory, counted, bytes_after, told_after_write}
+use Rattle.wasi_fs.specs.Stores.{Write, Fault, Refusal, Nothing, Bytes, fault_of, is_too_low, place_in, bytes_unless, write_unless, written_from, write_of, taken, Took, after_write, unless_no_memory, counted, bytes_after, told_after_write}
 use Rattle.wasi_fs.specs.Trees.{TreeState, with_nodes, after_fault}
 use Rattle.wasi_fs.specs.TreeStore.{tree_told, HasFile, body_with_bytes, with_file}
+use Rattle.wasi_fs.specs.laws.Bound.{told_of, bytes_changed, total_grown}
 
 -- ONE FILE OF MANY
 same_at : (g : ℕ → List ℕ) (f file : ℕ) → cond (eqb f file) (g file) (g f) ≡ g f
@@ -30,39 +31,6 @@ same_at g f file = by (eqb f file) refl
     by : (b : Bool) → eqb f file ≡ b → cond b (g file) (g f) ≡ g f
     by true e = ap g (sym (eqb-true f file e))
     by false e = refl
-
-bytes_here : (now : List ℕ) (nodes : List Node) (file : ℕ) → kind_at nodes file ≡ Some kinds.File → bytes_at (with_body (body_with_bytes now) nodes file) file ≡ now
-bytes_here now [] zero h = cc
-bytes_here now [] (suc i) h = cc
-bytes_here now (x ∷ nodes) zero h =
-    let P : Body → Type 0 = λ b. Some (kind_of b) ≡ Some kinds.File → bytes_in (body_with_bytes now b) ≡ now in
-    elim x.body as P [ File bytes ↦ λ _. refl | Directory p names ↦ λ e. cc | Link t ↦ λ e. cc ] h
-bytes_here now (x ∷ nodes) (suc i) h = bytes_here now nodes i h
-
-bytes_elsewhere : (g : Body → Body) (nodes : List Node) (f file : ℕ) → f ≢ file → bytes_at (with_body g nodes file) f ≡ bytes_at nodes f
-bytes_elsewhere g [] f file h = refl
-bytes_elsewhere g (x ∷ nodes) zero zero h = absurd (h refl)
-bytes_elsewhere g (x ∷ nodes) zero (suc file) h = refl
-bytes_elsewhere g (x ∷ nodes) (suc f) zero h = refl
-bytes_elsewhere g (x ∷ nodes) (suc f) (suc file) h = bytes_elsewhere g nodes f file (λ e. h (ap suc e))
-
-bytes_changed : (now : List ℕ) (nodes : List Node) (f file : ℕ) → kind_at nodes file ≡ Some kinds.File
-    → bytes_at (with_body (body_with_bytes now) nodes file) f ≡ cond (eqb f file) now (bytes_at nodes f)
-bytes_changed now nodes f file h = by (eqb f file) refl
-  where
-    by : (b : Bool) → eqb f file ≡ b → bytes_at (with_body (body_with_bytes now) nodes file) f ≡ cond b now (bytes_at nodes f)
-    by true e = ap (bytes_at (with_body (body_with_bytes now) nodes file)) (eqb-true f file e) ∙ bytes_here now nodes file h
-    by false e = bytes_elsewhere (body_with_bytes now) nodes f file (eqb-false f file e)
-
-total_changed : (f : Body → Body) (nodes : List Node) (i : ℕ) → total_bytes (with_body f nodes i) + length (bytes_at nodes i) ≡ total_bytes nodes + length (bytes_at (with_body f nodes i) i)
-unfolding total_bytes
-total_changed f [] i = refl
-total_changed f (x ∷ nodes) zero = omega arith
-total_changed f (x ∷ nodes) (suc i) = omega (arith, total_changed f nodes i)
-
-total_grown : (now : List ℕ) (nodes : List Node) (file : ℕ) → kind_at nodes file ≡ Some kinds.File → length (bytes_at nodes file) ≤ length now
-    → total_bytes (with_body (body_with_bytes now) nodes file) ≡ total_bytes nodes + (length now - length (bytes_at nodes file))
-total_grown now nodes file h l = omega (arith, total_changed (body_with_bytes now) nodes file, ap length (bytes_here now nodes file h))
 
 body_is_written : (place : ℕ) (more : List ℕ) (b : Body) → body_written place more b ≡ body_with_bytes (written (bytes_in b) place more) b
 body_is_written place more b = elim b as (λ b. body_written place more b ≡ body_with_bytes (written (bytes_in b) place more) b) [ File bytes ↦ refl | Directory p names ↦ refl | Link t ↦ refl ]
@@ -85,7 +53,7 @@ Agrees old file (Bytes now) outcome = (outcome ≡ Ok (with_body (body_with_byte
 not_below : (offset : ℕ) → ltb offset 0 ≡ false
 not_below offset = grind (arith, nat_tests)
 
-no_fault : (planned : Option IoKind) (to : At) → planned ≡ None → fault_of planned (is_below 0 to) ≡ None
+no_fault : (planned : Option IoKind) (to : At) → planned ≡ None → fault_of planned (is_too_low 0 to) ≡ None
 no_fault planned at.End e = ap (λ p. fault_of p false) e
 no_fault planned (at.Offset offset) e = ap (λ p. fault_of p (ltb offset 0)) e ∙ ap (fault_of None) (not_below offset)
 
@@ -125,22 +93,19 @@ pub record IsWrite (old new : TreeState) (file count : ℕ) (write : Write) (res
   pub changes : (f : ℕ) → bytes_at new.nodes f ≡ unless_no_memory result (bytes_at old.nodes f) (cond (eqb f file) (bytes_after (bytes_at old.nodes file) write) (bytes_at old.nodes f))
   pub rest : new ≡ unless_no_memory result old (after_write after_fault (with_file old file) old write)
 
-abbrev told_of : TreeState → ℕ → Told
-told_of old total = record { least = 0; limits = Some (record { file = 1048576; all = 67108864; total = total }); planned = old.planned; faults = old.faults }
-
 is_write_of : (old : TreeState) (nodes : List Node) (file count : ℕ) (write : Write) (outcome : Result (List Node) ErrorCode) (r : Result (Unit {0}) StoreError)
-    → kind_at old.nodes file ≡ Some kinds.File → Agrees old file write outcome → Leaves old.nodes nodes r outcome → (r ≡ Err OutOfMemory → IsOk outcome)
+    → kind_at old.nodes file ≡ Some kinds.File → Agrees old file write outcome → Leaves old.nodes nodes r outcome
     → IsWrite old (with_nodes old nodes) file count write (counted r count)
-is_write_of old nodes file count (Fault c) outcome r k a l m = absurd a
-is_write_of old nodes file count (Refusal c) outcome (Ok done) k a l m = absurd (cc)
-is_write_of old nodes file count (Refusal c) outcome (Err (Code d)) k a l m = record {
+is_write_of old nodes file count (Fault c) outcome r k a l = absurd a
+is_write_of old nodes file count (Refusal c) outcome (Ok done) k a l = absurd (cc)
+is_write_of old nodes file count (Refusal c) outcome (Err (Code d)) k a l = record {
   takes = let same : c ≡ d = cc (sym a ∙ l.0) in ap Err same;
   tells = ap (λ ns. tree_told (with_nodes old ns)) l.1;
   changes = λ f. ap (λ ns. bytes_at ns f) l.1 ∙ sym (same_at (bytes_at old.nodes) f file);
   rest = ap (with_nodes old) l.1;
 }
-is_write_of old nodes file count (Refusal c) outcome (Err OutOfMemory) k a l m = let ok : is_ok outcome ≡ true = m refl in absurd (cc)
-is_write_of old nodes file count Nothing outcome (Ok done) k a l m =
+is_write_of old nodes file count (Refusal c) outcome (Err OutOfMemory) k a l = let ok : is_ok outcome ≡ true = l.0 in absurd (cc)
+is_write_of old nodes file count Nothing outcome (Ok done) k a l =
     let same : nodes ≡ old.nodes = cc in
     record {
       takes = refl;
@@ -148,14 +113,14 @@ is_write_of old nodes file count Nothing outcome (Ok done) k a l m =
       changes = λ f. ap (λ ns. bytes_at ns f) same ∙ sym (same_at (bytes_at old.nodes) f file);
       rest = ap (with_nodes old) same;
     }
-is_write_of old nodes file count Nothing outcome (Err (Code d)) k a l m = let e : outcome ≡ Err d = l.0 in absurd (cc)
-is_write_of old nodes file count Nothing outcome (Err OutOfMemory) k a l m = record {
+is_write_of old nodes file count Nothing outcome (Err (Code d)) k a l = let e : outcome ≡ Err d = l.0 in absurd (cc)
+is_write_of old nodes file count Nothing outcome (Err OutOfMemory) k a l = record {
   takes = refl;
-  tells = ap (λ ns. tree_told (with_nodes old ns)) l;
-  changes = λ f. ap (λ ns. bytes_at ns f) l;
-  rest = ap (with_nodes old) l;
+  tells = ap (λ ns. tree_told (with_nodes old ns)) l.1;
+  changes = λ f. ap (λ ns. bytes_at ns f) l.1;
+  rest = ap (with_nodes old) l.1;
 }
-is_write_of old nodes file count (Bytes now) outcome (Ok done) k a l m =
+is_write_of old nodes file count (Bytes now) outcome (Ok done) k a l =
     let e : outcome ≡ Ok (with_body (body_with_bytes now) old.nodes file) = a.0 in
     let same : nodes ≡ with_body (body_with_bytes now) old.nodes file = cc in
     record {
@@ -164,28 +129,28 @@ is_write_of old nodes file count (Bytes now) outcome (Ok done) k a l m =
       changes = λ f. ap (λ ns. bytes_at ns f) same ∙ bytes_changed now old.nodes f file k;
       rest = ap (with_nodes old) same;
     }
-is_write_of old nodes file count (Bytes now) outcome (Err (Code d)) k a l m =
+is_write_of old nodes file count (Bytes now) outcome (Err (Code d)) k a l =
     let e : outcome ≡ Ok (with_body (body_with_bytes now) old.nodes file) = a.0 in
     let f : outcome ≡ Err d = l.0 in absurd (cc)
-is_write_of old nodes file count (Bytes now) outcome (Err OutOfMemory) k a l m = record {
+is_write_of old nodes file count (Bytes now) outcome (Err OutOfMemory) k a l = record {
   takes = refl;
-  tells = ap (λ ns. tree_told (with_nodes old ns)) l;
-  changes = λ f. ap (λ ns. bytes_at ns f) l;
-  rest = ap (with_nodes old) l;
+  tells = ap (λ ns. tree_told (with_nodes old ns)) l.1;
+  changes = λ f. ap (λ ns. bytes_at ns f) l.1;
+  rest = ap (with_nodes old) l.1;
 }
 
 pub is_write : (old : TreeState) (nodes : List Node) (file : ℕ) (to : At) (more : List ℕ) (r : Result (Unit {0}) StoreError) → old.planned ≡ None → HasFile old file
-    → Leaves old.nodes nodes r (wrote old.nodes file to more) → (r ≡ Err OutOfMemory → IsOk (wrote old.nodes file to more))
+    → Leaves old.nodes nodes r (wrote old.nodes file to more)
     → IsWrite old (with_nodes old nodes) file (length more) (write_of (tree_told old) (bytes_at old.nodes file) to more) (counted r (length more))
-is_write old nodes file to more r e k l m =
-    is_write_of old nodes file (length more) (write_of (tree_told old) (bytes_at old.nodes file) to more) (wrote old.nodes file to more) r k (agree old file to more e) l m
+is_write old nodes file to more r e k l =
+    is_write_of old nodes file (length more) (write_of (tree_told old) (bytes_at old.nodes file) to more) (wrote old.nodes file to more) r k (agree old file to more e) l
 
 -- the same, of what the calls answered
 pub is_written : (old new : TreeState) (file : ℕ) (to : At) (more : List ℕ) (r : Result (Unit {0}) StoreError) (answer : Result ℕ StoreError) → new ≡ with_nodes old new.nodes → answer ≡ counted r (length more)
-    → old.planned ≡ None → HasFile old file → Leaves old.nodes new.nodes r (wrote old.nodes file to more) → (r ≡ Err OutOfMemory → IsOk (wrote old.nodes file to more))
+    → old.planned ≡ None → HasFile old file → Leaves old.nodes new.nodes r (wrote old.nodes file to more)
     → IsWrite old new file (length more) (write_of (tree_told old) (bytes_at old.nodes file) to more) answer
-is_written old new file to more r answer rest told e k l m =
+is_written old new file to more r answer rest told e k l =
     let write : Write = write_of (tree_told old) (bytes_at old.nodes file) to more in
     let P : TreeState → Type 0 = λ t. IsWrite old t file (length more) write answer in
     let Q : Result ℕ StoreError → Type 0 = λ a. IsWrite old (with_nodes old new.nodes) file (length more) write a in
-    subst P (sym rest) (subst Q (sym told) (is_write old new.nodes file to more r e k l m))
+    subst P (sym rest) (subst Q (sym told) (is_write old new.nodes file to more r e k l))

@@ -120,13 +120,13 @@ abbrev pub file_unlinked : List Node → Descriptor → List ℕ → Result (Lis
 file_unlinked nodes at path = then (as_writable_directory at) (λ dir.
     then (resolved nodes dir.node there path) (file_unlinked_at nodes))
 
--- RENAME-AT
-abbrev pub renamed_at : List Node → Place → Place → Result (List Node) ErrorCode
-renamed_at nodes (Inside dir) to = Err code.Invalid
-renamed_at nodes (Named from name n) (Inside to) = Err code.Invalid
-renamed_at nodes (Named from name n) (Named to to_name target) = renamed nodes from name to to_name
+-- RENAME-AT: `below` tells whether one directory lies below another
+abbrev pub renamed_at : (ℕ → ℕ → Bool) → List Node → Place → Place → Result (List Node) ErrorCode
+renamed_at below nodes (Inside dir) to = Err code.Invalid
+renamed_at below nodes (Named from name n) (Inside to) = Err code.Invalid
+renamed_at below nodes (Named from name n) (Named to to_name target) = renamed below nodes from name to to_name
 
-abbrev pub node_renamed : List Node → Descriptor → List ℕ → Descriptor → List ℕ → Result (List Node) ErrorCode
-node_renamed nodes at path to to_path = then (as_writable_directories at to) (λ dirs.
+abbrev pub node_renamed : (ℕ → ℕ → Bool) → List Node → Descriptor → List ℕ → Descriptor → List ℕ → Result (List Node) ErrorCode
+node_renamed below nodes at path to to_path = then (as_writable_directories at to) (λ dirs.
     then (resolved nodes dirs.0.node there path) (λ from.
-    then (resolved nodes dirs.1.node there_or_new to_path) (renamed_at nodes from)))
+    then (resolved nodes dirs.1.node there_or_new to_path) (renamed_at below nodes from)))

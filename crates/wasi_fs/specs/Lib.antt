@@ -10,3 +10,4 @@ pub mod Listing
 pub mod Stores
 pub mod TreeStore
 pub mod MemStores
+pub mod laws

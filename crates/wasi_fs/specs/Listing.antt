@@ -1,8 +1,7 @@
 -- The names of a directory, as they are listed.
 use Rattle.std.specs.Prelude.{ℕ, List, [], ◌∷◌, Option, Some, None, Result, Ok, Err, ◌≡◌, IsUtf8}
-use Rattle.std.specs.Ordering.{nat_cmp}
-use Rattle.std.specs.Cmp.Lexicographic.{slice_cmp}
-use Rattle.std.specs.declared.cmp.Ordering.TheVariants.{Less}
+use Rattle.std.specs.Prelude.{◌≢◌, map}
+use Rattle.wasi_fs_nodes.specs.Names.{IsAscending}
 use Rattle.wasi_base.specs.declared.io_kind.IoKind.{IoKind}
 use Rattle.wasi_fs_types.specs.ErrorCode.{code_of_kind}
 use Rattle.wasi_fs_types.specs.declared.error_code.ErrorCode.{ErrorCode}
@@ -29,14 +28,13 @@ abbrev pub entries_told : List Node → List (List ℕ × ℕ) → List Director
 entries_told nodes [] = []
 entries_told nodes (e ∷ names) = record { type_ = type_of_node (kind_at nodes e.1); name = e.0 } ∷ entries_told nodes names
 
--- each entry's name is below those after it, by their bytes
-abbrev pub IsBelowAll : List ℕ → List DirectoryEntry → Type 0
-IsBelowAll name [] = Unit {0}
-IsBelowAll name (entry ∷ entries) = (slice_cmp nat_cmp name entry.name ≡ Less) × IsBelowAll name entries
-
 abbrev pub Ascend : List DirectoryEntry → Type 0
-Ascend [] = Unit {0}
-Ascend (entry ∷ entries) = IsBelowAll entry.name entries × Ascend entries
+Ascend entries = IsAscending (map (λ (entry : DirectoryEntry). entry.name) entries)
+
+-- the type of no entry is unknown
+abbrev pub AreKnown : List DirectoryEntry → Type 0
+AreKnown [] = Unit {0}
+AreKnown (entry ∷ entries) = (entry.type_ ≢ type.Unknown) × AreKnown entries
 
 abbrev pub listed_unless : Option IoKind → TreeState → Dir → Result (List DirectoryEntry) ErrorCode × TreeState
 listed_unless (Some kind) tree dir = (Err (code_of_kind kind), after_fault tree)

@@ -1,5 +1,5 @@
 -- What a store of files tells, and what a read and a write of one file answer and leave.
-use Rattle.std.specs.Prelude.{ℕ, ◌+◌, ◌-◌, List, [], ◌∷◌, length, take, drop, Option, Some, None, Result, Ok, Err, Bool, true, false, cond, ltb, ◌≡◌, ◌≤◌, IsOk}
+use Rattle.std.specs.Prelude.{ℕ, ◌+◌, ◌-◌, List, [], ◌∷◌, length, take, drop, Option, Some, None, Result, Ok, Err, Bool, true, false, cond, eqb, ltb, ◌≡◌, ◌≤◌, IsOk}
 use Rattle.wasi_base.specs.declared.io_kind.IoKind.{IoKind}
 use Rattle.wasi_fs_types.specs.ErrorCode.{code_of_kind}
 use Rattle.wasi_fs_types.specs.declared.error_code.ErrorCode.{ErrorCode}
@@ -36,9 +36,9 @@ abbrev pub told_after_fault : Told → Told
 told_after_fault told = record { least = told.least; limits = told.limits; planned = None; faults = risen told.faults }
 
 -- where a call begins: whether below the least offset, and at which place of a file's bytes
-abbrev pub is_below : ℕ → At → Bool
-is_below least at.End = false
-is_below least (at.Offset offset) = ltb offset least
+abbrev pub is_too_low : ℕ → At → Bool
+is_too_low least at.End = false
+is_too_low least (at.Offset offset) = ltb offset least
 
 abbrev pub place_in : ℕ → ℕ → At → ℕ
 place_in least size at.End = size
@@ -52,10 +52,10 @@ given_unless None bytes place room = Ok (take room (drop place bytes))
 abbrev pub given : Told → List ℕ → ℕ → ℕ → Result (List ℕ) ErrorCode
 given told bytes offset room = given_unless (fault_of told.planned (ltb offset told.least)) bytes (offset - told.least) room
 
--- its count and the front of its buffer say what was given
-abbrev pub Gave : Result ℕ ErrorCode → List ℕ → Result (List ℕ) ErrorCode → Type 0
-Gave (Ok count) buf outcome = (count ≤ length buf) × (outcome ≡ Ok (take count buf))
-Gave (Err code) buf outcome = outcome ≡ Err code
+-- its count and the front of its buffer say what was given, and the rest of the buffer stays
+abbrev pub Gave : Result ℕ ErrorCode → List ℕ → List ℕ → Result (List ℕ) ErrorCode → Type 0
+Gave (Ok count) before buf outcome = (count ≤ length buf) × (outcome ≡ Ok (take count buf)) × (drop count buf ≡ drop count before)
+Gave (Err code) before buf outcome = (outcome ≡ Err code) × (buf ≡ before)
 
 -- what stands after a read: only a fault changes anything
 abbrev pub after_read : {S : Type 0} → (S → S) → S → Result (List ℕ) ErrorCode → S
@@ -99,7 +99,7 @@ write_unless (Some code) write = Fault code
 write_unless None write = write
 
 abbrev pub write_of : Told → List ℕ → At → List ℕ → Write
-write_of told bytes to more = write_unless (fault_of told.planned (is_below told.least to)) (written_from told.limits bytes (place_in told.least (length bytes) to) more)
+write_of told bytes to more = write_unless (fault_of told.planned (is_too_low told.least to)) (written_from told.limits bytes (place_in told.least (length bytes) to) more)
 
 -- a write takes all its bytes, or answers a code
 abbrev pub taken : Write → ℕ → Result ℕ ErrorCode
@@ -147,3 +147,16 @@ told_grown told size now = record { least = told.least; limits = limits_grown to
 -- what is told after a write to a file of these bytes
 abbrev pub told_after_write : Told → List ℕ → Write → Told
 told_after_write told bytes write = after_write told_after_fault (λ now. told_grown told (length bytes) (length now)) told write
+
+-- WHAT THE MEMBERS OF A STORE ARE BOUND TO: a fault changes the plan and the count alone; other bytes in a file, as many as
+-- it had or more, change that file's bytes and the sum alone
+pub record IsBound {S : Type 0} (told : S → Told) (is_file : S → ℕ → Type 0) (contents : S → ℕ → List ℕ) (file_of : ℕ → ℕ) (met : S → S) (with_contents : S → ℕ → List ℕ → S) : Type 0 where
+  -- numbers of one file have the same bytes
+  pub one_file : (store : S) (f g : ℕ) → file_of f ≡ file_of g → contents store f ≡ contents store g
+  pub met_tells : (store : S) → told (met store) ≡ told_after_fault (told store)
+  pub met_leaves : (store : S) (f : ℕ) → contents (met store) f ≡ contents store f
+  pub met_keeps : (store : S) (f : ℕ) → is_file store f → is_file (met store) f
+  pub with_tells : (store : S) (file : ℕ) (now : List ℕ) → is_file store file → length (contents store file) ≤ length now
+      → told (with_contents store file now) ≡ told_grown (told store) (length (contents store file)) (length now)
+  pub with_leaves : (store : S) (file : ℕ) (now : List ℕ) (f : ℕ) → is_file store file → contents (with_contents store file now) f ≡ cond (eqb (file_of f) (file_of file)) now (contents store f)
+  pub with_keeps : (store : S) (file : ℕ) (now : List ℕ) (f : ℕ) → is_file store f → is_file (with_contents store file now) f

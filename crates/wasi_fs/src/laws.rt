@@ -1,10 +1,15 @@
-ghost use Rattle.std.specs.Prelude.{ℕ, List, IfOk};
+ghost use Rattle.std.specs.Prelude.{ℕ, Bool, List, Result, IfOk};
 ghost use Rattle.wasi_clocks.specs.declared.wall_times.WallTime.{WallTime};
 ghost use Rattle.wasi_fs_types.specs.declared.descriptor.NewTimestamp.{NewTimestamp};
 ghost use Rattle.wasi_fs_types.specs.declared.flags.PathFlags.{PathFlags};
+ghost use Rattle.wasi_fs_types.specs.declared.error_code.ErrorCode.{ErrorCode};
+ghost use Rattle.wasi_fs_nodes.specs.declared.store_error.StoreError.{StoreError};
 ghost use Rattle.wasi_fs_nodes.specs.Shape.{KindsStay};
 ghost use Rattle.wasi_fs_nodes.specs.declared.node.Node.{Node};
 ghost use Rattle.wasi_fs.specs.Calls.{size_set, times_set, times_set_at, directory_created, symlink_made, link_made, removed, file_unlinked, node_renamed};
+ghost use Rattle.wasi_fs.specs.Stores.{Write, after_read, after_write, unless_no_memory};
+ghost use Rattle.wasi_fs.specs.TreeStore.{with_file};
+ghost use Rattle.wasi_fs.specs.Trees.{TreeState, after_fault, KeepsDescriptors};
 ghost use Rattle.wasi_fs.specs.declared.descriptor.Descriptor.{Descriptor};
 
 use wasi_fs_nodes::kinds_stay;
@@ -20,7 +25,13 @@ pub fn calls_keep_kinds()
     ensures link { (nodes : List Node) (at : Descriptor) (flags : PathFlags) (path : List ℕ) (to : Descriptor) (to_path : List ℕ) → IfOk (link_made nodes at flags path to to_path) (KindsStay nodes) }
     ensures remove { (nodes : List Node) (at : Descriptor) (path : List ℕ) → IfOk (removed nodes at path) (KindsStay nodes) }
     ensures unlink { (nodes : List Node) (at : Descriptor) (path : List ℕ) → IfOk (file_unlinked nodes at path) (KindsStay nodes) }
-    ensures rename { (nodes : List Node) (at : Descriptor) (path : List ℕ) (to : Descriptor) (to_path : List ℕ) → IfOk (node_renamed nodes at path to to_path) (KindsStay nodes) }
+    ensures rename { (below : ℕ → ℕ → Bool) (nodes : List Node) (at : Descriptor) (path : List ℕ) (to : Descriptor) (to_path : List ℕ) → IfOk (node_renamed below nodes at path to to_path) (KindsStay nodes) }
 {
     kinds_stay();
 }
+
+/// A law: whatever a read or a write of a file answers, each descriptor of the tree stays one.
+pub fn stores_keep_descriptors()
+    ensures read { (tree : TreeState) (outcome : Result (List ℕ) ErrorCode) → KeepsDescriptors tree (after_read after_fault tree outcome) }
+    ensures write { (tree : TreeState) (file : ℕ) (write : Write) (answer : Result ℕ StoreError) → KeepsDescriptors tree (unless_no_memory answer tree (after_write after_fault (with_file tree file) tree write)) }
+{}

@@ -22,7 +22,7 @@ mod writable;
 
 pub use descriptor::{Descriptor, Dir, File};
 pub use entries::{DirectoryEntries, DirectoryEntry};
-pub use laws::calls_keep_kinds;
+pub use laws::{calls_keep_kinds, stores_keep_descriptors};
 pub use list::map_dir_entry;
 pub use memory_store::MemStore;
 pub use store::Store;
@@ -30,5 +30,5 @@ pub use tree::Tree;
 pub use wasi_fs_nodes::{At, StoreError};
 pub use wasi_fs_types::{
     Advice, CwdText, DescriptorFlags, DescriptorStat, DescriptorType, ErrorCode, FilesystemError,
-    FilesystemResult, FsPerms, MetadataHashValue, NewTimestamp, OpenFlags, OpenMode, PathFlags,
+    FilesystemResult, FsPerms, MetadataHashValue, NewTimestamp, OpenFlags, OpenMode, PathFlags, p3,
 };

@@ -1,7 +1,7 @@
 ghost use Rattle.std.specs.Prelude.{◌≡◌, IfOk};
 ghost use Rattle.wasi_fs_nodes.specs.Nodes.{kind_at, names_at};
 ghost use Rattle.wasi_fs_nodes.specs.Stats.{pairs_of};
-ghost use Rattle.wasi_fs.specs.Listing.{Ascend, type_of_node, entries_told, listed, IsMapped};
+ghost use Rattle.wasi_fs.specs.Listing.{Ascend, AreKnown, type_of_node, entries_told, listed, IsMapped};
 ghost use Rattle.wasi_fs.specs.Outcome.{Meets};
 ghost use Rattle.wasi_fs.specs.Trees.{IsDirOf, KeepsDescriptors};
 
@@ -28,7 +28,9 @@ fn type_of_node(kind: Option<Kind>) -> DescriptorType
 fn entries_of(nodes: &Nodes, alloc: Global, dir: u64) -> Result<Vec<DirectoryEntry>, AllocError>
     ensures entries { IfOk result (λ entries. entries.items ≡ entries_told nodes.now (names_at nodes.now dir)) }
     ensures ascending { IfOk result (λ entries. Ascend entries.items) }
+    ensures known { IfOk result (λ entries. AreKnown entries.items) }
 {
+    let _ = nodes.root();
     match nodes.list(dir) {
         Ok(names) => told(nodes, alloc, names),
         Err(_) => Err(AllocError),
@@ -75,7 +77,8 @@ pub fn map_dir_entry(
 }
 
 impl Tree {
-    /// The entries of a directory, for its stream, ascending by their names' bytes.
+    /// The entries of a directory, for its stream, ascending by their names' bytes, each with a type
+    /// that is known.
     ///
     /// # Errors
     ///
@@ -84,6 +87,7 @@ impl Tree {
         requires { IsDirOf self.old dir.now }
         ensures meets { Meets self.old self.new result (listed self.old dir.now) }
         ensures ascending { IfOk result (λ entries. Ascend entries) }
+        ensures known { IfOk result (λ entries. AreKnown entries) }
         ensures kept { KeepsDescriptors self.old self.new }
     {
         if let Some(kind) = self.planned() {

@@ -1,6 +1,7 @@
 ghost use Rattle.std.specs.Prelude.{◌≡◌, ◌≤◌, ◌-◌, length, take, drop, cond, is_some, OnOk, OnErr};
 ghost use Rattle.wasi_fs.specs.MemStores.{one_file_told, one_file_after_fault, one_file_with};
-ghost use Rattle.wasi_fs.specs.Stores.{fault_of, is_below, place_in, after_more};
+ghost use Rattle.wasi_fs.specs.Stores.{fault_of, is_too_low, place_in, after_more};
+ghost use Rattle.wasi_fs.specs.laws.Bound.{one_file_bound};
 
 use crate::store::Store;
 use std::marker::Model;
@@ -30,8 +31,8 @@ impl Model for MemStore {
 }
 
 impl MemStore {
-    fn is_below(&self, at: At) -> bool
-        ensures { result ≡ is_below self.now.base at }
+    fn is_too_low(&self, at: At) -> bool
+        ensures { result ≡ is_too_low self.now.base at }
     {
         match at {
             At::End => false,
@@ -63,15 +64,15 @@ impl MemStore {
     }
 
     /// The code of the fault that a call meets, if it meets one, which is then gone and counted.
-    fn meet_fault(&mut self, is_below: bool) -> Option<ErrorCode>
-        ensures code { result ≡ fault_of self.old.fail_next is_below }
+    fn meet_fault(&mut self, is_too_low: bool) -> Option<ErrorCode>
+        ensures code { result ≡ fault_of self.old.fail_next is_too_low }
         ensures after { self.new ≡ cond (is_some result) (one_file_after_fault self.old) self.old }
         ensures later { self.old.faults ≤ self.new.faults }
     {
         let code = match self.planned() {
             Some(kind) => ErrorCode::from(kind),
             None => {
-                if !is_below {
+                if !is_too_low {
                     return None;
                 }
                 ErrorCode::Invalid
@@ -84,6 +85,7 @@ impl MemStore {
     fn read_from(&self, place: u64, buf: &mut [u8]) -> usize
         ensures within { result ≤ length buf.new }
         ensures given { take result buf.new ≡ take (length buf.old) (drop place self.now.bytes) }
+        ensures behind { drop result buf.new ≡ drop result buf.old }
     {
         read_bytes(self.bytes.as_slice(), place, buf)
     }
@@ -121,18 +123,20 @@ impl Store for MemStore {
 
     ghost with_contents = { λ store number now. one_file_with store now };
 
+    ghost bound = { one_file_bound };
+
     fn read_at(&mut self, _file: u64, offset: u64, buf: &mut [u8]) -> Result<usize, ErrorCode> {
         let at = At::Offset(offset);
-        let is_below = self.is_below(at);
-        if let Some(code) = self.meet_fault(is_below) {
+        let is_too_low = self.is_too_low(at);
+        if let Some(code) = self.meet_fault(is_too_low) {
             return Err(code);
         }
         Ok(self.read_from(self.place(at), buf))
     }
 
     fn write_at(&mut self, _file: u64, at: At, bytes: &[u8]) -> Result<usize, StoreError> {
-        let is_below = self.is_below(at);
-        if let Some(code) = self.meet_fault(is_below) {
+        let is_too_low = self.is_too_low(at);
+        if let Some(code) = self.meet_fault(is_too_low) {
             return Err(StoreError::Code(code));
         }
         let place = self.place(at);

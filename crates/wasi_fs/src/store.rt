@@ -1,11 +1,11 @@
-ghost use Rattle.std.specs.Prelude.{◌≡◌, ◌≤◌, ℕ, List, length, cond, eqb, Err, IsOk};
-ghost use Rattle.wasi_fs.specs.Stores.{Told, given, Gave, after_read, told_after_fault, write_of, taken, Took, after_write, unless_no_memory, counted, bytes_after, told_after_write};
+ghost use Rattle.std.specs.Prelude.{◌≡◌, ◌≤◌, ℕ, List, length, cond, eqb};
+ghost use Rattle.wasi_fs.specs.Stores.{Told, IsBound, given, Gave, after_read, told_after_fault, write_of, taken, Took, after_write, unless_no_memory, counted, bytes_after, told_after_write};
 ghost use Rattle.wasi_fs.specs.Trees.{after_fault, with_nodes};
 ghost use Rattle.wasi_fs.specs.TreeStore.{tree_told, HasFile, bytes_of_file, with_file};
+ghost use Rattle.wasi_fs.specs.laws.Bound.{tree_bound};
 ghost use Rattle.wasi_fs_nodes.specs.Changes.{wrote};
 ghost use Rattle.wasi_fs_nodes.specs.Outcome.{Leaves};
 ghost use Rattle.wasi_fs_nodes.specs.Shape.{KindsStay};
-ghost use Rattle.wasi_fs_nodes.specs.declared.store_error.StoreError.TheVariants.{OutOfMemory};
 
 use crate::tree::Tree;
 use wasi_fs_nodes::{At, StoreError, kinds_stay};
@@ -37,14 +37,14 @@ pub trait Store {
     ghost with_contents: { Self → ℕ → List ℕ → Self };
 
     /// Reads from an offset on, as many bytes as there are and fit, none past the file's end, and
-    /// puts them at the front of `buf`. The answer is how many.
+    /// puts them at the front of `buf`, whose rest stays. The answer is how many.
     ///
     /// # Errors
     ///
     /// The fault's code, where one is met.
     fn read_at(&mut self, file: u64, offset: u64, buf: &mut [u8]) -> Result<usize, ErrorCode>
         requires { is_file self.old file }
-        ensures gives { Gave result buf.new (given (told self.old) (contents self.old file) offset (length buf.old)) }
+        ensures gives { Gave result buf.old buf.new (given (told self.old) (contents self.old file) offset (length buf.old)) }
         ensures tells { told self.new ≡ after_read told_after_fault (told self.old) (given (told self.old) (contents self.old file) offset (length buf.old)) }
         ensures later { (told self.old).faults ≤ (told self.new).faults }
         ensures same { (f : ℕ) → contents self.new f ≡ contents self.old f }
@@ -67,6 +67,10 @@ pub trait Store {
         ensures changes { (f : ℕ) → contents self.new f ≡ unless_no_memory result (contents self.old f) (cond (eqb (file_of f) (file_of file)) (bytes_after (contents self.old file) (write_of (told self.old) (contents self.old file) at bytes.now)) (contents self.old f)) }
         ensures files { (f : ℕ) → is_file self.old f → is_file self.new f }
         ensures rest { self.new ≡ unless_no_memory result self.old (after_write met (with_contents self.old file) self.old (write_of (told self.old) (contents self.old file) at bytes.now)) };
+
+    /// A store after a fault differs from the one before in the plan and the count alone, and with
+    /// other bytes in a file in that file alone.
+    ghost bound: { IsBound told is_file contents file_of met with_contents };
 }
 
 /// A write that is done took all its bytes.
@@ -83,7 +87,6 @@ impl Tree {
     fn write_file(&mut self, file: u64, at: At, bytes: &[u8]) -> Result<(), StoreError>
         requires { HasFile self.old file }
         ensures outcome { Leaves self.old.nodes self.new.nodes result (wrote self.old.nodes file at bytes.now) }
-        ensures memory { result ≡ Err OutOfMemory → IsOk (wrote self.old.nodes file at bytes.now) }
         ensures rest { self.new ≡ with_nodes self.old self.new.nodes }
         ensures kinds { KindsStay self.old.nodes self.new.nodes }
     {
@@ -104,6 +107,8 @@ impl Store for Tree {
     ghost met = { after_fault };
 
     ghost with_contents = { with_file };
+
+    ghost bound = { tree_bound };
 
     fn read_at(&mut self, file: u64, offset: u64, buf: &mut [u8]) -> Result<usize, ErrorCode> {
         if let Some(kind) = self.planned() {

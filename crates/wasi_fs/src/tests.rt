@@ -302,6 +302,31 @@ fn a_time_that_does_not_fit(rt: HostRuntime) {
     assert_eq!(rt; refused, Some(ErrorCode::Overflow));
 }
 
+/// Half a second before 1970, as the Rust crate's tests have it.
+#[test]
+fn times_before_1970(rt: HostRuntime) {
+    let mut tree = small_tree(&rt, rt.alloc());
+    let root = root_of(&tree);
+    let before = NewTimestamp::Timestamp(Instant {
+        seconds: -1,
+        nanoseconds: 500_000_000,
+    });
+    let keep = NewTimestamp::NoChange;
+    let set = tree.set_times_at(&root, PathFlags::empty(), "d/f", before, keep, epoch());
+    assert!(rt; set.is_ok());
+    let root = root_of(&tree);
+    match tree.stat_at(&root, PathFlags::empty(), "d/f") {
+        Ok(stat) => {
+            let half = Datetime {
+                seconds: -1,
+                nanoseconds: 500_000_000,
+            };
+            assert_eq!(rt; stat.data_access_timestamp, Some(half));
+        }
+        Err(_) => assert!(rt; false, "no stat"),
+    }
+}
+
 #[test]
 fn a_file_of_a_tree_is_written_and_read(rt: HostRuntime) {
     let mut tree = small_tree(&rt, rt.alloc());

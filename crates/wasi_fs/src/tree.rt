@@ -1,5 +1,6 @@
 ghost use Rattle.std.specs.Prelude.{◌≡◌, ◌≤◌, Some, None, false, IfOk};
 ghost use Rattle.wasi_fs_nodes.specs.Changes.{root_alone};
+ghost use Rattle.wasi_fs_nodes.specs.Shape.{IsSound};
 ghost use Rattle.wasi_fs.specs.Times.{time_of};
 ghost use Rattle.wasi_fs.specs.Trees.{IsDirOf, after_fault};
 
@@ -63,10 +64,13 @@ impl Tree {
         self.number
     }
 
-    /// The root, to be read, written and changed, whose streams work by tasks.
+    /// The root, to be read, written and changed, whose streams work by tasks. The tree is sound:
+    /// each entry names a node that was made, and each directory stands in the one that it names as
+    /// its parent, and in no other.
     pub fn root(&self) -> Dir
         ensures is { result ≡ record { tree = self.now.number; node = 0; perms = FsPerms.ReadWrite; mode = record { 0 = 3 }; blocking = false } }
         ensures of_tree { IsDirOf self.now result }
+        ensures sound { IsSound self.now.nodes }
     {
         Dir {
             tree: self.number(),

@@ -7,8 +7,8 @@ use Rattle.std.specs.declared.cmp.Ordering.TheVariants.{Less, Equal, Greater}
 use Rattle.std.specs.Ordering.{nat_cmp, match_ordering}
 use Rattle.std.specs.Cmp.Lexicographic.{slice_cmp}
 use Rattle.std.specs.BTreeMap.{is_at, insert_entry}
-use Rattle.std.specs.Map.{lookup, remove_entry, set_value}
-use Rattle.wasi_fs_nodes.specs.Names.{IsBelow, IsAscending, entry_of, with_entry, without_entry, with_other, entries_of_map}
+use Rattle.std.specs.Map.{lookup, remove_entry, set_value, keys_of}
+use Rattle.wasi_fs_nodes.specs.Names.{IsAscending, entry_of, with_entry, without_entry, with_other, entries_of_map}
 
 pub find_bytes : {A : Type 0} (es : List (String A × ℕ)) (q : List ℕ) → entry_of (entries_of_map es) q ≡ lookup (is_at (λ k. slice_cmp nat_cmp q (string_bytes k))) es
 find_bytes [] q = refl
@@ -59,11 +59,15 @@ absent_same (e ∷ es) q v h =
     ] h
 
 -- ---- in order
-below_bytes : {A : Type 0} (es : List (String A × ℕ)) (k : List ℕ) → AllByRecursion (λ (y : String A). slice_cmp nat_cmp k (string_bytes y) ≡ Less) (map (λ e. e.0) es) → IsBelow k (entries_of_map es)
+below_bytes : {A : Type 0} (es : List (String A × ℕ)) (k : List ℕ) → AllByRecursion (λ (y : String A). slice_cmp nat_cmp k (string_bytes y) ≡ Less) (map (λ e. e.0) es) → AllByRecursion (λ q. slice_cmp nat_cmp k q ≡ Less) (keys_of (entries_of_map es))
 below_bytes [] k h = tt
 below_bytes (e ∷ es) k h = (h.0, below_bytes es k h.1)
 
-pub ascending_bytes : {A : Type 0} (es : List (String A × ℕ)) → IsStrictlySortedBy (λ (a b : String A). slice_cmp nat_cmp (string_bytes a) (string_bytes b)) (map (λ e. e.0) es) → IsAscending (entries_of_map es)
+pub ascending_bytes : {A : Type 0} (es : List (String A × ℕ)) → IsStrictlySortedBy (λ (a b : String A). slice_cmp nat_cmp (string_bytes a) (string_bytes b)) (map (λ e. e.0) es) → IsAscending (keys_of (entries_of_map es))
 unfolding IsStrictlySortedBy
 ascending_bytes [] h = tt
 ascending_bytes (e ∷ es) h = (below_bytes es (string_bytes e.0) h.0, ascending_bytes es h.1)
+
+pub no_names_ascend : IsAscending []
+unfolding IsStrictlySortedBy
+no_names_ascend = tt

@@ -4,7 +4,7 @@ use Rattle.wasi_clocks.specs.declared.datetimes.Datetime.{Datetime}
 use Rattle.wasi_fs_types.specs.declared.error_code.ErrorCode.{ErrorCode}
 use Rattle.wasi_fs_types.specs.declared.error_code.ErrorCode.TheVariants as code
 use Rattle.wasi_fs_nodes.specs.Names.{has_no_names}
-use Rattle.wasi_fs_nodes.specs.Nodes.{kind_of, is_directory, names_at, entry_at, bytes_in, bytes_at, is_removed, is_below}
+use Rattle.wasi_fs_nodes.specs.Nodes.{kind_of, is_directory, names_at, entry_at, bytes_in, bytes_at, is_removed}
 use Rattle.wasi_fs_nodes.specs.Bodies.{with_body, body_with_name, body_with_other, body_with_parent, body_without_name, body_written, body_resized, with_name, with_new, with_size, with_written, with_times, without_name, with_parent}
 use Rattle.wasi_fs_nodes.specs.Outcome.{then, unless, unless_some}
 use Rattle.wasi_fs_nodes.specs.Shape.{KindsStay}
@@ -75,19 +75,19 @@ moved_stay nodes from name node to to_name target =
     let taken : List Node = without_name put from name in
     both nodes taken (with_parent taken node to) (both nodes put taken (put_stay nodes to to_name node target) (taken_stay put from name)) (stay (body_with_parent to) (parent_kind to) taken node)
 
-pub renamed_stay : (nodes : List Node) (dir : ℕ) (name : List ℕ) (to : ℕ) (to_name : List ℕ) → IfOk (renamed nodes dir name to to_name) (KindsStay nodes)
-renamed_stay nodes dir name to to_name = by_entry (entry_at nodes dir name)
+pub renamed_stay : (below : ℕ → ℕ → Bool) (nodes : List Node) (dir : ℕ) (name : List ℕ) (to : ℕ) (to_name : List ℕ) → IfOk (renamed below nodes dir name to to_name) (KindsStay nodes)
+renamed_stay below nodes dir name to to_name = by_entry (entry_at nodes dir name)
   where
     if_cond : (b : Bool) (r : Result (List Node) ErrorCode) → IfOk r (KindsStay nodes) → IfOk (cond b (Ok nodes) r) (KindsStay nodes)
     if_cond true r h = λ n kind e. e
     if_cond false r h = h
 
-    by_entry : (o : Option ℕ) → IfOk (renamed_onto nodes dir name o to to_name (entry_at nodes to to_name)) (KindsStay nodes)
+    by_entry : (o : Option ℕ) → IfOk (renamed_onto below nodes dir name o to to_name (entry_at nodes to to_name)) (KindsStay nodes)
     by_entry None = tt
     by_entry (Some node) =
         let target : Option ℕ = entry_at nodes to to_name in
         if_cond (is_node node target) _
-        (if_unless (KindsStay nodes) (is_directory nodes node && is_below nodes node to) code.Invalid _
+        (if_unless (KindsStay nodes) (is_directory nodes node && below node to) code.Invalid _
         (if_unless_some (KindsStay nodes) (target_refusal nodes node target) _
         (if_unless (KindsStay nodes) (is_removed nodes to) code.NoEntry _ (moved_stay nodes dir name node to to_name target))))
 

@@ -3,6 +3,9 @@ pub mod WriteFacts
 pub mod RowFacts
 pub mod NodeFacts
 pub mod ShapeFacts
+pub mod SoundFacts
+pub mod SoundChanges
+pub mod BelowFacts
 pub mod SumFacts
 pub mod CountFacts
 pub mod MoveFacts

@@ -57,10 +57,3 @@ read_less (x ∷ xs) zero zero h = grind (arith, nat_tests)
 read_less (x ∷ xs) zero (suc n) h = grind (arith, nat_tests)
 read_less (x ∷ xs) (suc i) zero h = grind (arith, nat_tests)
 read_less (x ∷ xs) (suc i) (suc n) h = let e = read_less xs i n h in grind (arith, nat_tests)
-
-pub read_kept : (xs : List ℕ) (i n : ℕ) → 0 < get_or xs n 0 → 0 < get_or (set xs i (get_or xs i 0 + 1)) n 0
-read_kept [] i n h = absurd (omega arith)
-read_kept (x ∷ xs) zero zero h = omega arith
-read_kept (x ∷ xs) zero (suc n) h = h
-read_kept (x ∷ xs) (suc i) zero h = h
-read_kept (x ∷ xs) (suc i) (suc n) h = read_kept xs i n h

@@ -121,7 +121,7 @@ rooted-with_parent nodes i dir d t =
       ];
     }
 
-body_at-with_times : (nodes : List Node) (i n : ℕ) (a m : Option Datetime) → body_at (with_times nodes i a m) n ≡ body_at nodes n
+pub body_at-with_times : (nodes : List Node) (i n : ℕ) (a m : Option Datetime) → body_at (with_times nodes i a m) n ≡ body_at nodes n
 body_at-with_times [] i n a m = refl
 body_at-with_times (x ∷ nodes) zero zero a m = refl
 body_at-with_times (x ∷ nodes) zero (suc n) a m = refl

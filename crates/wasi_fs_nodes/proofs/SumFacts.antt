@@ -116,7 +116,7 @@ names_for-with_entry m (e ∷ names) name node h =
       | Greater ↦ λ k. omega (arith, names_for-with_entry m names name node k)
     ] h
 
-names_for-without_entry : (m : ℕ) (names : List (List ℕ × ℕ)) (name : List ℕ) (n : ℕ) → entry_of names name ≡ Some n
+pub names_for-without_entry : (m : ℕ) (names : List (List ℕ × ℕ)) (name : List ℕ) (n : ℕ) → entry_of names name ≡ Some n
     → names_for m (without_entry names name) + cond (eqb n m) 1 0 ≡ names_for m names
 names_for-without_entry m [] name n h = cc
 names_for-without_entry m (e ∷ names) name n h =

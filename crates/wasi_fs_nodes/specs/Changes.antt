@@ -3,7 +3,7 @@
 use Rattle.std.specs.Prelude.{ℕ, ◌+◌, ◌-◌, List, [], ◌∷◌, length, Option, Some, None, is_some, Result, Ok, Err, Bool, true, false, cond, not, ◌&&◌, ◌||◌, eqb, ltb}
 use Rattle.wasi_clocks.specs.declared.datetimes.Datetime.{Datetime}
 use Rattle.wasi_fs_nodes.specs.Names.{has_no_names}
-use Rattle.wasi_fs_nodes.specs.Nodes.{is_directory, names_at, entry_at, bytes_in, bytes_at, total_bytes, is_removed, is_below, all_at}
+use Rattle.wasi_fs_nodes.specs.Nodes.{is_directory, names_at, entry_at, bytes_in, bytes_at, total_bytes, is_removed, all_at}
 use Rattle.wasi_fs_nodes.specs.Bodies.{with_new, with_name, with_target, with_parent, without_name, with_written, with_size}
 use Rattle.wasi_fs_nodes.specs.Outcome.{then, unless, unless_some}
 use Rattle.wasi_fs_nodes.specs.declared.at.At.{At}
@@ -107,17 +107,18 @@ abbrev pub target_refusal : List Node → ℕ → Option ℕ → Option ErrorCod
 target_refusal nodes node None = None
 target_refusal nodes node (Some n) = refusal_by_kind (is_directory nodes n) (is_directory nodes node) (has_no_names (names_at nodes n))
 
-abbrev pub renamed_onto : List Node → ℕ → List ℕ → Option ℕ → ℕ → List ℕ → Option ℕ → Result (List Node) ErrorCode
-renamed_onto nodes from name None to to_name target = Err code.NoEntry
-renamed_onto nodes from name (Some node) to to_name target =
+-- 'below' tells whether one directory lies below another
+abbrev pub renamed_onto : (ℕ → ℕ → Bool) → List Node → ℕ → List ℕ → Option ℕ → ℕ → List ℕ → Option ℕ → Result (List Node) ErrorCode
+renamed_onto below nodes from name None to to_name target = Err code.NoEntry
+renamed_onto below nodes from name (Some node) to to_name target =
     cond (is_node node target) (Ok nodes)
-    (unless (is_directory nodes node && is_below nodes node to) code.Invalid
+    (unless (is_directory nodes node && below node to) code.Invalid
     (unless_some (target_refusal nodes node target)
     (unless (is_removed nodes to) code.NoEntry
     (Ok (moved nodes from name node to to_name target)))))
 
-abbrev pub renamed : List Node → ℕ → List ℕ → ℕ → List ℕ → Result (List Node) ErrorCode
-renamed nodes from name to to_name = renamed_onto nodes from name (entry_at nodes from name) to to_name (entry_at nodes to to_name)
+abbrev pub renamed : (ℕ → ℕ → Bool) → List Node → ℕ → List ℕ → ℕ → List ℕ → Result (List Node) ErrorCode
+renamed below nodes from name to to_name = renamed_onto below nodes from name (entry_at nodes from name) to to_name (entry_at nodes to to_name)
 
 -- THE BYTES OF A FILE
 -- too many bytes in all, where a file has so many

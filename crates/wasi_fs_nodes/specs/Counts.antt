@@ -1,7 +1,7 @@
 -- What is kept beside the nodes: how many entries name each one, and the sum of the files' sizes.
 use Rattle.std.specs.Prelude.{◌≡◌, ℕ, ◌≤◌, List, map, length, slice_index}
 use Rattle.wasi_fs_nodes.specs.Nodes.{total_bytes, links_of}
-use Rattle.wasi_fs_nodes.specs.Shape.{IsRooted}
+use Rattle.wasi_fs_nodes.specs.Shape.{IsSound}
 use Rattle.wasi_fs_nodes.specs.declared.node.Node.{Node}
 use Rattle.wasi_fs_nodes.specs.declared.rows.Row.{Row}
 
@@ -15,6 +15,6 @@ links_list rows = map (λ (r : Row). r.links) rows
 pub record IsCounted (rows : List Row) (bytes : ℕ) : Type 0 where
   pub sum : bytes ≡ total_bytes (nodes_in rows)
   pub links : (n : ℕ) → slice_index (links_list rows) n ≡ links_of (nodes_in rows) n
-  pub shape : IsRooted (nodes_in rows)
+  pub shape : IsSound (nodes_in rows)
   pub room : bytes ≤ 67108864
   pub few : length rows ≤ 65536

@@ -8,3 +8,4 @@ pub mod Shape
 pub mod Changes
 pub mod Stats
 pub mod Counts
+pub mod laws

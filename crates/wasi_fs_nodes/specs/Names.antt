@@ -1,9 +1,9 @@
 -- The names in a directory, ascending by their bytes, each with its node.
-use Rattle.std.specs.Prelude.{◌≡◌, ℕ, List, [], ◌∷◌, Option, Bool, true, false, String, string_bytes}
+use Rattle.std.specs.Prelude.{ℕ, List, [], ◌∷◌, Option, Bool, true, false, String, string_bytes}
 use Rattle.std.specs.Ordering.{nat_cmp}
 use Rattle.std.specs.Cmp.Lexicographic.{slice_cmp}
 use Rattle.std.specs.BTreeMap.{is_at, insert_entry}
-use Rattle.std.specs.declared.cmp.Ordering.TheVariants.{Less}
+use Rattle.std.specs.List.Sorted.{IsStrictlySortedBy}
 use Rattle.std.specs.Map.{lookup, remove_entry, set_value}
 
 -- the node of a name
@@ -27,13 +27,8 @@ has_no_names [] = true
 has_no_names (e ∷ names) = false
 
 -- each name is below those after it, by their bytes
-abbrev pub IsBelow : List ℕ → List (List ℕ × ℕ) → Type 0
-IsBelow name [] = Unit {0}
-IsBelow name (e ∷ names) = (slice_cmp nat_cmp name e.0 ≡ Less) × IsBelow name names
-
-abbrev pub IsAscending : List (List ℕ × ℕ) → Type 0
-IsAscending [] = Unit {0}
-IsAscending (e ∷ names) = IsBelow e.0 names × IsAscending names
+abbrev pub IsAscending : List (List ℕ) → Type 0
+IsAscending names = IsStrictlySortedBy (slice_cmp nat_cmp) names
 
 -- the entries of a map, with the bytes of each key
 abbrev pub entries_of_map : {A : Type 0} → List (String A × ℕ) → List (List ℕ × ℕ)

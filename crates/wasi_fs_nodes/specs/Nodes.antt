@@ -1,6 +1,6 @@
 -- The nodes of a tree, and what they hold. They are a list: the node of a number stands at that place, and the next
 -- number is the list's length. The root is node 0.
-use Rattle.std.specs.Prelude.{ℕ, zero, suc, ◌+◌, List, [], ◌∷◌, length, Option, Some, None, Bool, true, false, cond, eqb, slice_get}
+use Rattle.std.specs.Prelude.{◌≡◌, ◌↔◌, IsTrue, ℕ, ◌+◌, List, [], ◌∷◌, length, Option, Some, None, Bool, true, false, cond, eqb, slice_get}
 use Rattle.wasi_clocks.specs.declared.datetimes.Datetime.{Datetime}
 use Rattle.wasi_fs_nodes.specs.Names.{entry_of}
 use Rattle.wasi_fs_nodes.specs.declared.node.Node.{Node}
@@ -133,11 +133,12 @@ total_bytes (node ∷ nodes) = length (bytes_in node.body) + total_bytes nodes
 abbrev pub is_removed : List Node → ℕ → Bool
 is_removed nodes dir = cond (eqb dir 0) false (eqb (links_of nodes dir) 0)
 
--- up from a directory, at most so many steps, to see whether it is in the one at the top
-abbrev pub below : ℕ → List Node → ℕ → ℕ → Bool
-below zero nodes top dir = false
-below (suc n) nodes top dir = cond (eqb dir top) true (cond (eqb dir 0) false (below n nodes top (parent_at nodes dir)))
+-- A NODE LIES BELOW A DIRECTORY where it is the directory, or an entry of one that lies below it. So what no entry names
+-- lies below nothing but itself.
+pub data LiesBelow (nodes : List Node) (top : ℕ) : ℕ → Type 0 where
+  itself : LiesBelow nodes top top
+  inside : (dir : ℕ) (name : List ℕ) (n : ℕ) → LiesBelow nodes top dir → entry_at nodes dir name ≡ Some n → LiesBelow nodes top n
 
--- a directory lies in another, at any depth, or is it; there are no more steps up than nodes
-abbrev pub is_below : List Node → ℕ → ℕ → Bool
-is_below nodes top dir = below (length nodes) nodes top dir
+-- a test that tells, for each two directories, whether the second one lies below the first
+abbrev pub TellsBelow : List Node → (ℕ → ℕ → Bool) → Type 0
+TellsBelow nodes below = (top dir : ℕ) → kind_at nodes dir ≡ Some kinds.Directory → IsTrue (below top dir) ↔ LiesBelow nodes top dir

@@ -1,5 +1,5 @@
 -- What a call answers: its outcome, or the code of a refusal.
-use Rattle.std.specs.Prelude.{◌≡◌, Option, Some, None, Result, Ok, Err, Bool, true, false}
+use Rattle.std.specs.Prelude.{◌≡◌, Option, Some, None, Result, Ok, Err, IsOk, Bool, true, false}
 use Rattle.wasi_fs_types.specs.declared.error_code.ErrorCode.{ErrorCode}
 use Rattle.wasi_fs_nodes.specs.declared.store_error.StoreError.{StoreError}
 use Rattle.wasi_fs_nodes.specs.declared.store_error.StoreError.TheVariants.{Code, OutOfMemory}
@@ -20,11 +20,11 @@ unless_some None on = on
 unless_some (Some code) on = Err code
 
 -- A CHANGE'S CONTRACT: the definition says what it leaves, or the code of its refusal, which changes nothing. Nor does
--- want of memory.
+-- want of memory, which comes only where there is no code.
 abbrev pub Leaves : {A T : Type 0} → T → T → Result A StoreError → Result T ErrorCode → Type 0
 Leaves old new (Ok a) outcome = outcome ≡ Ok new
 Leaves old new (Err (Code code)) outcome = (outcome ≡ Err code) × (new ≡ old)
-Leaves old new (Err OutOfMemory) outcome = new ≡ old
+Leaves old new (Err OutOfMemory) outcome = IsOk outcome × (new ≡ old)
 
 -- the same for a change that takes no memory
 abbrev pub LeavesAlways : {A T : Type 0} → T → T → Result A ErrorCode → Result T ErrorCode → Type 0

@@ -1,8 +1,8 @@
-ghost use Rattle.std.specs.Prelude.{◌≡◌, ◌+◌, ◌<◌, ◌≤◌, length, Some, None, Ok, Err, IsOk, IfOk, OnOk};
-ghost use Rattle.wasi_fs_nodes.specs.Nodes.{kind_at, bytes_at, entry_at, total_bytes};
+ghost use Rattle.std.specs.Prelude.{◌≡◌, ℕ, Bool, ◌+◌, ◌<◌, ◌≤◌, length, Some, None, Ok, Err, IfOk, OnOk};
+ghost use Rattle.wasi_fs_nodes.specs.Nodes.{kind_at, bytes_at, entry_at, total_bytes, TellsBelow};
 ghost use Rattle.wasi_fs_nodes.specs.Outcome.{Leaves, LeavesAlways};
-ghost use Rattle.wasi_fs_nodes.specs.Changes.{may_make, made, new_file, new_directory, new_link, linked, unlinked, directory_removed, renamed, target_refusal, put_at, moved, sized, wrote, wrote_from};
-ghost use Rattle.wasi_fs_nodes.specs.declared.store_error.StoreError.TheVariants.{OutOfMemory};
+ghost use Rattle.wasi_fs_nodes.specs.Changes.{may_make, made, new_file, new_directory, new_link, linked, unlinked, directory_removed, renamed, target_refusal, moved, sized, wrote, wrote_from};
+ghost use Rattle.wasi_fs_nodes.specs.laws.Climbs.{climbs};
 
 use crate::content::Content;
 use crate::names::Names;
@@ -202,34 +202,6 @@ impl Nodes {
         }
     }
 
-    /// A name for a node: a new one, or that of what stands there.
-    fn put_at(
-        &mut self,
-        dir: u64,
-        name: &str,
-        node: u64,
-        target: Option<u64>,
-    ) -> Result<(), StoreError>
-        requires is_dir { kind_at self.old dir ≡ Some Kind.Directory }
-        requires made { node < length self.old }
-        requires target { target ≡ entry_at self.old dir name.now }
-        ensures { Leaves self.old self.new result (Ok (put_at self.old dir name.now node target)) }
-    {
-        if self.links(node) == u64::MAX {
-            return Err(StoreError::OutOfMemory);
-        }
-        match target {
-            Some(before) => {
-                self.replace(dir, name, node, before);
-                Ok(())
-            }
-            None => match self.add_name(dir, name, node) {
-                Ok(()) => Ok(()),
-                Err(_) => Err(StoreError::OutOfMemory),
-            },
-        }
-    }
-
     /// A node takes a place, after all refusals.
     fn move_to(
         &mut self,
@@ -241,18 +213,19 @@ impl Nodes {
         target: Option<u64>,
     ) -> Result<(), StoreError>
         requires from { entry_at self.old from name.now ≡ Some node }
-        requires made { node < length self.old }
         requires is_dir { kind_at self.old to ≡ Some Kind.Directory }
         requires target { target ≡ entry_at self.old to to_name.now }
         ensures { Leaves self.old self.new result (Ok (moved self.old from name.now node to to_name.now target)) }
     {
-        match self.put_at(to, to_name, node, target) {
-            Err(error) => Err(error),
-            Ok(()) => {
-                self.take(from, name, node);
-                self.set_parent(node, to);
+        match target {
+            Some(before) => {
+                self.move_over(from, name, node, to, to_name, before);
                 Ok(())
             }
+            None => match self.move_name(from, name, node, to, to_name) {
+                Ok(()) => Ok(()),
+                Err(_) => Err(StoreError::OutOfMemory),
+            },
         }
     }
 
@@ -265,7 +238,21 @@ impl Nodes {
         to_name: &str,
     ) -> Result<(), StoreError>
         requires { kind_at self.old to ≡ Some Kind.Directory }
-        ensures { Leaves self.old self.new result (renamed self.old from name.now to to_name.now) }
+        ensures { (below : ℕ → ℕ → Bool) → TellsBelow self.old below → Leaves self.old self.new result (renamed below self.old from name.now to to_name.now) }
+    {
+        let _ = self.root();
+        self.rename_node(from, name, to, to_name)
+    }
+
+    fn rename_node(
+        &mut self,
+        from: u64,
+        name: &str,
+        to: u64,
+        to_name: &str,
+    ) -> Result<(), StoreError>
+        requires { kind_at self.old to ≡ Some Kind.Directory }
+        ensures { Leaves self.old self.new result (renamed (climbs self.old) self.old from name.now to to_name.now) }
     {
         let Some(node) = self.entry(from, name) else {
             return Err(StoreError::Code(ErrorCode::NoEntry));
@@ -308,8 +295,7 @@ impl Nodes {
     /// Memory can be wanting only where no limit would be passed.
     pub fn write(&mut self, file: u64, at: At, bytes: &[u8]) -> Result<(), StoreError>
         requires { kind_at self.old file ≡ Some Kind.File }
-        ensures outcome { Leaves self.old self.new result (wrote self.old file at bytes.now) }
-        ensures memory { result ≡ Err OutOfMemory → IsOk (wrote self.old file at bytes.now) }
+        ensures { Leaves self.old self.new result (wrote self.old file at bytes.now) }
     {
         if bytes.is_empty() {
             return Ok(());
@@ -323,8 +309,7 @@ impl Nodes {
 
     fn write_from(&mut self, file: u64, place: u64, bytes: &[u8]) -> Result<(), StoreError>
         requires { kind_at self.old file ≡ Some Kind.File }
-        ensures outcome { Leaves self.old self.new result (wrote_from self.old file place bytes.now) }
-        ensures memory { result ≡ Err OutOfMemory → IsOk (wrote_from self.old file place bytes.now) }
+        ensures { Leaves self.old self.new result (wrote_from self.old file place bytes.now) }
     {
         let length = bytes.len() as u64;
         if place > FILE_LIMIT || length > FILE_LIMIT - place {

@@ -38,6 +38,7 @@ impl Content {
     pub(crate) fn read_at(&self, offset: u64, buf: &mut [u8]) -> usize
         ensures within { result ≤ length buf.new }
         ensures given { take result buf.new ≡ take (length buf.old) (drop offset self.now) }
+        ensures behind { drop result buf.new ≡ drop result buf.old }
     {
         read_bytes(self.bytes.as_slice(), offset, buf)
     }
@@ -72,10 +73,11 @@ impl Content {
 }
 
 /// Bytes from a place on, as many as the room, none past the end, into the front of `buf`. The
-/// answer is how many.
+/// answer is how many. What stands behind them in `buf` stays.
 pub fn read_bytes(bytes: &[u8], offset: u64, buf: &mut [u8]) -> usize
     ensures within { result ≤ length buf.new }
     ensures given { take result buf.new ≡ take (length buf.old) (drop offset bytes.now) }
+    ensures behind { drop result buf.new ≡ drop result buf.old }
 {
     if offset >= bytes.len() as u64 {
         return 0;
@@ -122,6 +124,7 @@ fn fill_to(bytes: &mut Vec<u8>, end: usize) -> Result<(), AllocError>
 fn copy_out(bytes: &[u8], buf: &mut [u8]) -> usize
     ensures within { result ≤ length buf.new }
     ensures given { take result buf.new ≡ take (length buf.old) bytes.now }
+    ensures behind { drop result buf.new ≡ drop result buf.old }
 {
     let n = bytes.len().min(buf.len());
     buf[..n].copy_from_slice(&bytes[..n]);

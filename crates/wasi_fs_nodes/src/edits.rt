@@ -1,8 +1,8 @@
-ghost use Rattle.std.specs.Prelude.{◌≡◌, ℕ, ◌+◌, ◌-◌, ◌<◌, ◌≤◌, ◌^◌, length, Some, None, Ok, IfOk, OnOk, OnErr};
-ghost use Rattle.wasi_fs_nodes.specs.Nodes.{kind_at, kind_of, names_in, parent_in, bytes_in, entry_at, links_of, total_bytes, bytes_at};
+ghost use Rattle.std.specs.Prelude.{◌≡◌, ℕ, ◌+◌, ◌-◌, ◌<◌, ◌≤◌, ◌^◌, length, Some, None, Ok, false, IfOk, OnOk, OnErr};
+ghost use Rattle.wasi_fs_nodes.specs.Nodes.{kind_at, is_directory, kind_of, names_in, parent_in, bytes_in, entry_at, links_of, total_bytes, bytes_at};
 ghost use Rattle.wasi_fs_nodes.specs.Shape.{IsFresh};
-ghost use Rattle.wasi_fs_nodes.specs.Bodies.{with_new, with_name, with_target, without_name, with_parent, with_written, with_size, with_times};
-ghost use Rattle.wasi_fs_nodes.specs.Changes.{root_alone};
+ghost use Rattle.wasi_fs_nodes.specs.Bodies.{with_new, with_name, without_name, with_written, with_size, with_times};
+ghost use Rattle.wasi_fs_nodes.specs.Changes.{root_alone, moved};
 
 use crate::content::Content;
 use crate::names::Names;
@@ -37,7 +37,7 @@ impl Nodes {
     pub(crate) fn add(&mut self, dir: u64, name: &str, node: Node) -> Result<(), AllocError>
         requires is_dir { kind_at self.old dir ≡ Some Kind.Directory }
         requires absent { entry_at self.old dir name.now ≡ None }
-        requires fresh { IsFresh self.old node }
+        requires fresh { IsFresh self.old dir node }
         requires few { length self.old < 65536 }
         requires room { total_bytes self.old + length (bytes_in node.body) ≤ 67108864 }
         ensures ok { OnOk result (self.new ≡ with_new self.old dir name.now node) }
@@ -52,11 +52,12 @@ impl Nodes {
         Ok(())
     }
 
-    /// A new name for a node.
+    /// A new name for a file or a link.
     pub(crate) fn add_name(&mut self, dir: u64, name: &str, node: u64) -> Result<(), AllocError>
         requires is_dir { kind_at self.old dir ≡ Some Kind.Directory }
         requires absent { entry_at self.old dir name.now ≡ None }
         requires made { node < length self.old }
+        requires no_dir { is_directory self.old node ≡ false }
         requires few { links_of self.old node + 1 < 2 ^ 64 }
         ensures ok { OnOk result (self.new ≡ with_name self.old dir name.now node) }
         ensures err { OnErr result (self.new ≡ self.old) }
@@ -64,18 +65,6 @@ impl Nodes {
         rows::put_name(&mut self.rows, self.alloc, dir, name, node)?;
         rows::add_link(&mut self.rows, node);
         Ok(())
-    }
-
-    /// Another node under a name that is there.
-    pub(crate) fn replace(&mut self, dir: u64, name: &str, node: u64, before: u64)
-        requires there { entry_at self.old dir name.now ≡ Some before }
-        requires made { node < length self.old }
-        requires few { links_of self.old node + 1 < 2 ^ 64 }
-        ensures { self.new ≡ with_target self.old dir name.now node }
-    {
-        rows::replace_name(&mut self.rows, dir, name, node);
-        rows::add_link(&mut self.rows, node);
-        rows::drop_link(&mut self.rows, before);
     }
 
     /// Without a name, which was the node's.
@@ -87,13 +76,41 @@ impl Nodes {
         rows::drop_link(&mut self.rows, node);
     }
 
-    /// A directory stands in another; a file or a link stays as it was.
-    pub(crate) fn set_parent(&mut self, node: u64, dir: u64)
-        requires is_dir { kind_at self.old dir ≡ Some Kind.Directory }
-        requires made { node < length self.old }
-        ensures { self.new ≡ with_parent self.old node dir }
+    /// A node leaves its name for a new one.
+    pub(crate) fn move_name(
+        &mut self,
+        from: u64,
+        name: &str,
+        node: u64,
+        to: u64,
+        to_name: &str,
+    ) -> Result<(), AllocError>
+        requires from { entry_at self.old from name.now ≡ Some node }
+        requires is_dir { kind_at self.old to ≡ Some Kind.Directory }
+        requires absent { entry_at self.old to to_name.now ≡ None }
+        ensures ok { OnOk result (self.new ≡ moved self.old from name.now node to to_name.now None) }
+        ensures err { OnErr result (self.new ≡ self.old) }
     {
-        rows::set_parent(&mut self.rows, node, dir);
+        rows::move_name(&mut self.rows, self.alloc, from, name, node, to, to_name)?;
+        Ok(())
+    }
+
+    /// A node leaves its name for that of another one.
+    pub(crate) fn move_over(
+        &mut self,
+        from: u64,
+        name: &str,
+        node: u64,
+        to: u64,
+        to_name: &str,
+        before: u64,
+    )
+        requires from { entry_at self.old from name.now ≡ Some node }
+        requires is_dir { kind_at self.old to ≡ Some Kind.Directory }
+        requires there { entry_at self.old to to_name.now ≡ Some before }
+        ensures { self.new ≡ moved self.old from name.now node to to_name.now (Some before) }
+    {
+        rows::move_over(&mut self.rows, from, name, node, to, to_name, before);
     }
 
     /// Bytes over those of a file from a place on.

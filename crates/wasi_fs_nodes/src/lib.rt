@@ -20,7 +20,7 @@ mod text;
 
 pub use at::At;
 pub use content::{Content, read_bytes, write_bytes};
-pub use laws::kinds_stay;
+pub use laws::{below_is_told, kinds_stay};
 pub use names::Names;
 pub use node::{Body, Kind, Node, Times};
 pub use nodes::Nodes;

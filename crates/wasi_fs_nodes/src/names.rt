@@ -1,4 +1,5 @@
 ghost use Rattle.std.specs.Prelude.{◌≡◌, [], IfOk, OnOk, OnErr, IsTrue, ◌↔◌};
+ghost use Rattle.std.specs.Map.{keys_of};
 ghost use Rattle.wasi_fs_nodes.specs.Names.{IsAscending, has_no_names, entry_of, with_entry, without_entry, with_other};
 ghost use Rattle.wasi_fs_nodes.specs.Stats.{pairs_of};
 
@@ -70,7 +71,7 @@ impl Names {
     /// A copy of the names in their order, each with its node.
     pub(crate) fn list(&self, alloc: Global) -> Result<Vec<Entry>, AllocError>
         ensures entries { IfOk result (λ entries. pairs_of entries.items ≡ self.now) }
-        ensures ascending { IfOk result (λ entries. IsAscending (pairs_of entries.items)) }
+        ensures ascending { IfOk result (λ entries. IsAscending (keys_of (pairs_of entries.items))) }
     {
         let mut entries = Vec::with_capacity(alloc, self.map.len())?;
         for (name, node) in self.map.iter() {

@@ -1,4 +1,5 @@
 ghost use Rattle.std.specs.Prelude.{◌≡◌, ◌+◌, ◌-◌, ◌<◌, ◌≤◌, ◌^◌, length, take, drop, None, Some, IfOk, OnOk, OnErr, MatchOption};
+ghost use Rattle.std.specs.Map.{keys_of};
 ghost use Rattle.wasi_fs_nodes.specs.Names.{IsAscending, entry_of, has_no_names};
 ghost use Rattle.wasi_fs_nodes.specs.Nodes.{kind_of, names_in, parent_in, bytes_in, text_in, size_in, all_at, times_with};
 ghost use Rattle.wasi_fs_nodes.specs.Stats.{pairs_of};
@@ -101,9 +102,10 @@ impl Body {
     }
 
     /// A copy of the names in their order; a file and a link have none.
+    #[tactic(auto, using(crate::proofs::EntryFacts::no_names_ascend))]
     pub(crate) fn list(&self, alloc: Global) -> Result<Vec<Entry>, AllocError>
         ensures entries { IfOk result (λ entries. pairs_of entries.items ≡ names_in self.now) }
-        ensures ascending { IfOk result (λ entries. IsAscending (pairs_of entries.items)) }
+        ensures ascending { IfOk result (λ entries. IsAscending (keys_of (pairs_of entries.items))) }
     {
         match self {
             Body::File(_) => Ok(Vec::new(alloc)),
@@ -160,6 +162,7 @@ impl Body {
     pub(crate) fn read_at(&self, offset: u64, buf: &mut [u8]) -> usize
         ensures within { result ≤ length buf.new }
         ensures given { take result buf.new ≡ take (length buf.old) (drop offset (bytes_in self.now)) }
+        ensures behind { drop result buf.new ≡ drop result buf.old }
     {
         match self {
             Body::File(bytes) => bytes.read_at(offset, buf),

@@ -1,8 +1,10 @@
 ghost use Rattle.std.specs.Prelude.{◌≡◌, ◌<◌, ◌≤◌, length, take, drop, Some, None, IfOk, OnOk, IfSome, MatchOption};
+ghost use Rattle.std.specs.Map.{keys_of};
 ghost use Rattle.wasi_fs_nodes.specs.Names.{IsAscending, has_no_names};
-ghost use Rattle.wasi_fs_nodes.specs.Nodes.{names_at, kind_at, is_directory, entry_at, parent_at, links_of, total_bytes, is_removed, is_below, bytes_at, text_at};
-ghost use Rattle.wasi_fs_nodes.specs.Shape.{IsRooted, NamesNodes};
+ghost use Rattle.wasi_fs_nodes.specs.Nodes.{names_at, kind_at, is_directory, entry_at, parent_at, links_of, total_bytes, is_removed, bytes_at, text_at};
+ghost use Rattle.wasi_fs_nodes.specs.Shape.{IsSound};
 ghost use Rattle.wasi_fs_nodes.specs.Stats.{stat_at, pairs_of};
+ghost use Rattle.wasi_fs_nodes.specs.laws.Climbs.{climbs};
 
 use crate::node::Kind;
 use crate::rows::Row;
@@ -50,11 +52,11 @@ impl Nodes {
         self.bytes
     }
 
-    /// The number of the root.
+    /// The number of the root. The tree is sound: each entry names a node that was made, and each
+    /// directory stands in the one that it names as its parent, and in no other.
     pub fn root(&self) -> u64
         ensures first { result ≡ 0 }
-        ensures rooted { IsRooted self.now }
-        ensures named { NamesNodes self.now }
+        ensures sound { IsSound self.now }
     {
         let _ = &self.rows;
         0
@@ -136,16 +138,17 @@ impl Nodes {
         dir != 0 && self.links(dir) == 0
     }
 
-    /// Whether a directory lies in another, at any depth, or is it. It costs the depth.
-    pub fn is_below(&self, top: u64, dir: u64) -> bool
-        ensures { result ≡ is_below self.now top dir }
+    /// Whether a directory is another one, or lies below it: goes up from it by the directories
+    /// that have it as an entry. It costs the depth.
+    pub(crate) fn is_below(&self, top: u64, dir: u64) -> bool
+        ensures { result ≡ climbs self.now top dir }
     {
         let mut here = dir;
         for _ in 0..self.len() {
             if here == top {
                 return true;
             }
-            if here == 0 {
+            if self.links(here) == 0 {
                 return false;
             }
             here = self.parent(here);
@@ -164,10 +167,11 @@ impl Nodes {
     }
 
     /// Bytes of a file from a place on, as many as the room, none past the end, into the front of
-    /// `buf`. The answer is how many.
+    /// `buf`. The answer is how many. What stands behind them in `buf` stays.
     pub fn read(&self, file: u64, offset: u64, buf: &mut [u8]) -> usize
         ensures within { result ≤ length buf.new }
         ensures given { take result buf.new ≡ take (length buf.old) (drop offset (bytes_at self.now file)) }
+        ensures behind { drop result buf.new ≡ drop result buf.old }
     {
         match self.rows.get(file as usize) {
             None => 0,
@@ -202,9 +206,10 @@ impl Nodes {
 
     /// A copy of the names in a directory, ascending by their bytes, each with its node. A file and
     /// a link have none.
+    #[tactic(auto, using(crate::proofs::EntryFacts::no_names_ascend))]
     pub fn list(&self, dir: u64) -> Result<Vec<Entry>, OutOfMemory>
         ensures entries { IfOk result (λ entries. pairs_of entries.items ≡ names_at self.now dir) }
-        ensures ascending { IfOk result (λ entries. IsAscending (pairs_of entries.items)) }
+        ensures ascending { IfOk result (λ entries. IsAscending (keys_of (pairs_of entries.items))) }
     {
         match self.rows.get(dir as usize) {
             None => Ok(Vec::new(self.alloc)),

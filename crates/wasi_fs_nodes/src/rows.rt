@@ -1,5 +1,6 @@
-ghost use Rattle.std.specs.Prelude.{◌≡◌, ◌+◌, ◌-◌, ◌<◌, ◌^◌, length, vec_capacity, OnOk, OnErr, slice_index, slice_set};
+ghost use Rattle.std.specs.Prelude.{◌≡◌, ◌+◌, ◌-◌, ◌<◌, ◌^◌, length, vec_capacity, Some, None, OnOk, OnErr, slice_index, slice_set};
 ghost use Rattle.wasi_fs_nodes.specs.Bodies.{with_name, without_name, with_target, with_parent, with_written, with_size, with_times};
+ghost use Rattle.wasi_fs_nodes.specs.Changes.{moved};
 ghost use Rattle.wasi_fs_nodes.specs.Counts.{nodes_in, links_list};
 
 use crate::node::Node;
@@ -82,6 +83,55 @@ pub(crate) fn set_parent(rows: &mut Vec<Row>, node: u64, dir: u64)
     ensures len { length rows.new.items ≡ length rows.old.items }
 {
     rows[node as usize].node.body.set_parent(dir);
+}
+
+/// A node leaves its name for a new one.
+pub(crate) fn move_name(
+    rows: &mut Vec<Row>,
+    alloc: Global,
+    from: u64,
+    name: &str,
+    node: u64,
+    to: u64,
+    to_name: &str,
+) -> Result<(), AllocError>
+    requires from { from < length rows.old.items }
+    requires node { node < length rows.old.items }
+    requires to { to < length rows.old.items }
+    ensures nodes { OnOk result (nodes_in rows.new.items ≡ moved (nodes_in rows.old.items) from name.now node to to_name.now None) }
+    ensures links { links_list rows.new.items ≡ links_list rows.old.items }
+    ensures err { OnErr result (nodes_in rows.new.items ≡ nodes_in rows.old.items) }
+    ensures len { length rows.new.items ≡ length rows.old.items }
+{
+    put_name(rows, alloc, to, to_name, node)?;
+    take_name(rows, from, name);
+    set_parent(rows, node, to);
+    Ok(())
+}
+
+/// A node leaves its name for that of another one.
+pub(crate) fn move_over(
+    rows: &mut Vec<Row>,
+    from: u64,
+    name: &str,
+    node: u64,
+    to: u64,
+    to_name: &str,
+    before: u64,
+)
+    requires from { from < length rows.old.items }
+    requires node { node < length rows.old.items }
+    requires to { to < length rows.old.items }
+    requires before { before < length rows.old.items }
+    requires some { 0 < slice_index (links_list rows.old.items) before }
+    ensures nodes { nodes_in rows.new.items ≡ moved (nodes_in rows.old.items) from name.now node to to_name.now (Some before) }
+    ensures links { links_list rows.new.items ≡ slice_set (links_list rows.old.items) before (slice_index (links_list rows.old.items) before - 1) }
+    ensures len { length rows.new.items ≡ length rows.old.items }
+{
+    replace_name(rows, to, to_name, node);
+    take_name(rows, from, name);
+    set_parent(rows, node, to);
+    drop_link(rows, before);
 }
 
 /// Bytes over those of a file from a place on.

@@ -161,6 +161,19 @@ fn a_removed_directory_takes_no_entry(rt: HostRuntime) -> Result<(), Fail> {
     Ok(())
 }
 
+/// What no entry names lies below nothing, also where it once stood below the directory that moves.
+#[test]
+fn a_directory_moves_into_a_removed_one(rt: HostRuntime) -> Result<(), Fail> {
+    let Some(mut nodes) = small(&rt, rt.alloc()) else {
+        return Ok(());
+    };
+    assert_eq!(rt; add_directory(&mut nodes, 1, "b"), Some(5));
+    assert!(rt; rename(&mut nodes, 0, "a", 5, "c") == refused(ErrorCode::Invalid));
+    assert!(rt; nodes.remove_directory(1, "b").is_ok());
+    assert!(rt; rename(&mut nodes, 0, "a", 5, "c") == refused(ErrorCode::NoEntry));
+    Ok(())
+}
+
 #[test]
 fn directories_move(rt: HostRuntime) -> Result<(), Fail> {
     let Some(mut nodes) = small(&rt, rt.alloc()) else {

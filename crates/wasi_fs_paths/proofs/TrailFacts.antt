@@ -7,8 +7,9 @@ use Rattle.wasi_fs_nodes.specs.declared.node.Node.{Node}
 use Rattle.wasi_fs_nodes.specs.declared.node.Kind.{Kind}
 use Rattle.wasi_fs_nodes.specs.declared.node.Kind.TheVariants as kind
 use Rattle.wasi_fs_paths.specs.Components.{is_parent}
-use Rattle.wasi_fs_paths.specs.Paths.{Place, Inside, Named, walk, last, past, back, into, into_kind, inside}
-use Rattle.wasi_fs_paths.specs.Trail.{Trail, back_along, on_into_kind, on_into, past_along, reached, last_along, walk_along, KnowParents, GoesBackAlong}
+use Rattle.wasi_fs_nodes.specs.Shape.{KnowParents}
+use Rattle.wasi_fs_paths.specs.Paths.{Place, Inside, Named, Trail, back, into_kind, into, past, reached, last, walk}
+use Rattle.wasi_fs_paths.specs.laws.Stands.{stand_walk, stand_last, stand_past, stand_back, stand_into, stand_into_kind, stand_inside}
 use Rattle.wasi_fs_paths.specs.declared.walk.Stand.{Stand}
 
 -- each directory of a trail stands in the next one
@@ -27,15 +28,15 @@ AgreeOn nodes (Ok stand) (Err f) = ⊥
 AgreeOn nodes (Err e) (Ok trail) = ⊥
 AgreeOn nodes (Err e) (Err f) = e ≡ f
 
-agree_back : (nodes : List Node) (above : List ℕ) (here : ℕ) → IsAbove nodes here above → AgreeOn nodes (back nodes (length above) here) (back_along above)
+agree_back : (nodes : List Node) (above : List ℕ) (here : ℕ) → IsAbove nodes here above → AgreeOn nodes (stand_back nodes (length above) here) (back above)
 agree_back nodes [] here a = refl
 agree_back nodes (dir ∷ above) here a = record { depth = refl; here = a.0; above = a.1 }
 
 agree_into : (nodes : List Node) → KnowParents nodes → (above : List ℕ) (here : ℕ) (name : List ℕ) → IsAbove nodes here above → (o : Option ℕ) → entry_at nodes here name ≡ o
-    → AgreeOn nodes (into nodes (length above) o) (on_into nodes above here o)
+    → AgreeOn nodes (stand_into nodes (length above) o) (into nodes above here o)
 agree_into nodes w above here name a None e = refl
 agree_into nodes w above here name a (Some n) e =
-    let P : Option Kind → Type 0 = λ k. kind_at nodes n ≡ k → AgreeOn nodes (into_kind (length above) n k) (on_into_kind above here n k) in
+    let P : Option Kind → Type 0 = λ k. kind_at nodes n ≡ k → AgreeOn nodes (stand_into_kind (length above) n k) (into_kind above here n k) in
     elim (kind_at nodes n) as P [
       | None ↦ λ _. refl
       | Some k ↦ elim k as (λ k. P (Some k)) [
@@ -54,7 +55,7 @@ agree_cond nodes true r t s u h k = h
 agree_cond nodes false r t s u h k = k
 
 agree_past : (nodes : List Node) → KnowParents nodes → (above : List ℕ) (here : ℕ) (name : List ℕ) → IsAbove nodes here above
-    → AgreeOn nodes (past nodes (length above) here name) (past_along nodes above here name)
+    → AgreeOn nodes (stand_past nodes (length above) here name) (past nodes above here name)
 agree_past nodes w above here name a =
     agree_cond nodes (is_parent name) _ _ _ _ (agree_back nodes above here a)
     (agree_unless nodes (ltb 255 (length name)) _ _ (agree_into nodes w above here name a (entry_at nodes here name) refl))
@@ -66,25 +67,26 @@ same_then nodes (Ok stand) (Err e) f g h k = absurd h
 same_then nodes (Err e) (Ok trail) f g h k = absurd h
 same_then nodes (Err e) (Err d) f g h k = ap Err h
 
-same_inside : (nodes : List Node) (r : Result Stand ErrorCode) (s : Result Trail ErrorCode) → AgreeOn nodes r s → inside r ≡ reached s
+same_inside : (nodes : List Node) (r : Result Stand ErrorCode) (s : Result Trail ErrorCode) → AgreeOn nodes r s → stand_inside r ≡ reached s
 same_inside nodes (Ok stand) (Ok trail) h = ap (λ n. Ok (Inside n)) h.here
 same_inside nodes (Ok stand) (Err e) h = absurd h
 same_inside nodes (Err e) (Ok trail) h = absurd h
 same_inside nodes (Err e) (Err d) h = ap Err h
 
-same_last : (nodes : List Node) (above : List ℕ) (here : ℕ) (name : List ℕ) → IsAbove nodes here above → last nodes (length above) here name ≡ last_along nodes above here name
+same_last : (nodes : List Node) (above : List ℕ) (here : ℕ) (name : List ℕ) → IsAbove nodes here above → stand_last nodes (length above) here name ≡ last nodes above here name
 same_last nodes above here name a =
     ap (λ r. cond (is_parent name) r (unless (ltb 255 (length name)) code.NameTooLong (Ok (Named here name (entry_at nodes here name)))))
-    (same_inside nodes (back nodes (length above) here) (back_along above) (agree_back nodes above here a))
+    (same_inside nodes (stand_back nodes (length above) here) (back above) (agree_back nodes above here a))
 
-same_walk : (nodes : List Node) → KnowParents nodes → (above : List ℕ) (here : ℕ) (names : List (List ℕ)) → IsAbove nodes here above → walk nodes (length above) here names ≡ walk_along nodes above here names
+same_walk : (nodes : List Node) → KnowParents nodes → (above : List ℕ) (here : ℕ) (names : List (List ℕ)) → IsAbove nodes here above → stand_walk nodes (length above) here names ≡ walk nodes above here names
 same_walk nodes w above here [] a = refl
 same_walk nodes w above here (name ∷ []) a = same_last nodes above here name a
 same_walk nodes w above here (name ∷ next ∷ names) a =
-    same_then nodes (past nodes (length above) here name) (past_along nodes above here name) _ _ (agree_past nodes w above here name a) (λ stand trail h.
-    ap (λ d. walk nodes d stand.here (next ∷ names)) h.depth
-    ∙ ap (λ n. walk nodes (length trail.above) n (next ∷ names)) h.here
+    same_then nodes (stand_past nodes (length above) here name) (past nodes above here name) _ _ (agree_past nodes w above here name a) (λ stand trail h.
+    ap (λ d. stand_walk nodes d stand.here (next ∷ names)) h.depth
+    ∙ ap (λ n. stand_walk nodes (length trail.above) n (next ∷ names)) h.here
     ∙ same_walk nodes w trail.above trail.here (next ∷ names) h.above)
 
-pub goes_back_along : GoesBackAlong
+-- .. from a start on
+pub goes_back_along : (nodes : List Node) → KnowParents nodes → (start : ℕ) (names : List (List ℕ)) → stand_walk nodes 0 start names ≡ walk nodes [] start names
 goes_back_along nodes w start names = same_walk nodes w [] start names tt

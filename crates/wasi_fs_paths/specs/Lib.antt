@@ -1,4 +1,4 @@
 pub mod Components
 pub mod Paths
 pub mod Places
-pub mod Trail
+pub mod laws

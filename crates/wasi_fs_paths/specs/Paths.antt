@@ -1,17 +1,16 @@
 -- What a path leads to from a directory, or the code of its refusal. The path is walked from its front, and the first
 -- refusal met is the answer; at one name the rules count in the order in which they stand here.
-use Rattle.std.specs.Prelude.{ℕ, zero, suc, List, [], ◌∷◌, length, Option, Some, None, Result, Ok, Err, Bool, false, cond, not, ltb}
+use Rattle.std.specs.Prelude.{ℕ, List, [], ◌∷◌, length, Option, Some, None, Result, Ok, Err, Bool, false, cond, not, ltb}
 use Rattle.std.specs.Option.{ok_or}
 use Rattle.wasi_fs_types.specs.declared.error_code.ErrorCode.{ErrorCode}
 use Rattle.wasi_fs_types.specs.declared.error_code.ErrorCode.TheVariants as code
-use Rattle.wasi_fs_nodes.specs.Nodes.{kind_at, entry_at, parent_at}
+use Rattle.wasi_fs_nodes.specs.Nodes.{kind_at, entry_at}
 use Rattle.wasi_fs_nodes.specs.Outcome.{then, unless}
 use Rattle.wasi_fs_nodes.specs.declared.node.Node.{Node}
 use Rattle.wasi_fs_nodes.specs.declared.node.Kind.{Kind}
 use Rattle.wasi_fs_nodes.specs.declared.node.Kind.TheVariants as kind
 use Rattle.wasi_fs_paths.specs.Components.{components, is_parent, is_empty, begins_with_slash, ends_with_slash}
 use Rattle.wasi_fs_paths.specs.declared.place.Wish.{Wish}
-use Rattle.wasi_fs_paths.specs.declared.walk.Stand.{Stand}
 
 -- What a path leads to: a directory, where the path has no last name; or a last name in a directory, with the node of
 -- that name, where it is there.
@@ -19,42 +18,47 @@ pub data Place : Type 0 where
   Inside : ℕ → Place
   Named : ℕ → List ℕ → Option ℕ → Place
 
--- one directory back, never above the start
-abbrev pub back : List Node → ℕ → ℕ → Result Stand ErrorCode
-back nodes zero here = Err code.NotPermitted
-back nodes (suc depth) here = Ok (record { depth = depth; here = parent_at nodes here })
+-- A WALK: the directories that it came through, the nearest one first, and the one that it reached
+pub record Trail : Type 0 where
+  pub above : List ℕ
+  pub here : ℕ
 
-abbrev pub into_kind : ℕ → ℕ → Option Kind → Result Stand ErrorCode
-into_kind depth n None = Err code.NoEntry
-into_kind depth n (Some kind.File) = Err code.NotDirectory
-into_kind depth n (Some kind.Directory) = Ok (record { depth = suc depth; here = n })
-into_kind depth n (Some kind.Link) = Err code.Loop
+-- `..` goes back to the directory that the walk came from, and never above the start
+abbrev pub back : List ℕ → Result Trail ErrorCode
+back [] = Err code.NotPermitted
+back (dir ∷ above) = Ok (record { above = above; here = dir })
+
+abbrev pub into_kind : List ℕ → ℕ → ℕ → Option Kind → Result Trail ErrorCode
+into_kind above here n None = Err code.NoEntry
+into_kind above here n (Some kind.File) = Err code.NotDirectory
+into_kind above here n (Some kind.Directory) = Ok (record { above = here ∷ above; here = n })
+into_kind above here n (Some kind.Link) = Err code.Loop
 
 -- on into the node of a name
-abbrev pub into : List Node → ℕ → Option ℕ → Result Stand ErrorCode
-into nodes depth None = Err code.NoEntry
-into nodes depth (Some n) = into_kind depth n (kind_at nodes n)
+abbrev pub into : List Node → List ℕ → ℕ → Option ℕ → Result Trail ErrorCode
+into nodes above here None = Err code.NoEntry
+into nodes above here (Some n) = into_kind above here n (kind_at nodes n)
 
--- where the walk stands after a component that is not the last one
-abbrev pub past : List Node → ℕ → ℕ → List ℕ → Result Stand ErrorCode
-past nodes depth here name = cond (is_parent name) (back nodes depth here)
-    (unless (ltb 255 (length name)) code.NameTooLong (into nodes depth (entry_at nodes here name)))
+-- past a component that is not the last one
+abbrev pub past : List Node → List ℕ → ℕ → List ℕ → Result Trail ErrorCode
+past nodes above here name = cond (is_parent name) (back above)
+    (unless (ltb 255 (length name)) code.NameTooLong (into nodes above here (entry_at nodes here name)))
 
-abbrev pub inside : Result Stand ErrorCode → Result Place ErrorCode
-inside (Ok stand) = Ok (Inside stand.here)
-inside (Err code) = Err code
+abbrev pub reached : Result Trail ErrorCode → Result Place ErrorCode
+reached (Ok trail) = Ok (Inside trail.here)
+reached (Err code) = Err code
 
 -- what the last component leads to
-abbrev pub last : List Node → ℕ → ℕ → List ℕ → Result Place ErrorCode
-last nodes depth here name = cond (is_parent name) (inside (back nodes depth here))
+abbrev pub last : List Node → List ℕ → ℕ → List ℕ → Result Place ErrorCode
+last nodes above here name = cond (is_parent name) (reached (back above))
     (unless (ltb 255 (length name)) code.NameTooLong (Ok (Named here name (entry_at nodes here name))))
 
--- the walk along components, from a directory that lies some way below the start
-abbrev pub walk : List Node → ℕ → ℕ → List (List ℕ) → Result Place ErrorCode
-walk nodes depth here [] = Ok (Inside here)
-walk nodes depth here (name ∷ []) = last nodes depth here name
-walk nodes depth here (name ∷ next ∷ names) =
-    then (past nodes depth here name) (λ stand. walk nodes stand.depth stand.here (next ∷ names))
+-- the walk along components
+abbrev pub walk : List Node → List ℕ → ℕ → List (List ℕ) → Result Place ErrorCode
+walk nodes above here [] = Ok (Inside here)
+walk nodes above here (name ∷ []) = last nodes above here name
+walk nodes above here (name ∷ next ∷ names) =
+    then (past nodes above here name) (λ trail. walk nodes trail.above trail.here (next ∷ names))
 
 abbrev pub settled_kind : Wish → Bool → ℕ → List ℕ → ℕ → Option Kind → Result Place ErrorCode
 settled_kind wish slash dir name n None = Ok (Named dir name (Some n))
@@ -74,7 +78,7 @@ abbrev pub resolved : List Node → ℕ → Wish → List ℕ → Result Place E
 resolved nodes start wish path =
     unless (is_empty path) code.NoEntry
     (unless (begins_with_slash path) code.NotPermitted
-    (then (walk nodes 0 start (components path)) (settled nodes wish (ends_with_slash path))))
+    (then (walk nodes [] start (components path)) (settled nodes wish (ends_with_slash path))))
 
 -- the node that a place has
 abbrev pub node_of : Place → Option ℕ

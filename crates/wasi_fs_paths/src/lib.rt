@@ -3,13 +3,11 @@
 #![tactic(auto)]
 
 mod components;
-mod laws;
 mod place;
 #[cfg(test)]
 mod tests;
 mod walk;
 
 pub use components::{has_trailing_slash, next_component};
-pub use laws::goes_back_along_the_walked_path;
 pub use place::{Place, Wish};
 pub use walk::{find, resolve};

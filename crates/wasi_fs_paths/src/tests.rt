@@ -82,6 +82,8 @@ fn paths_that_lead_to_a_place(rt: HostRuntime) {
         ("a/../a/ä/../g", Place::Named(1, "g", Some(5))),
         ("f", Place::Named(0, "f", Some(2))),
         ("f/.", Place::Named(0, "f", Some(2))),
+        ("f//.", Place::Named(0, "f", Some(2))),
+        ("f/./.", Place::Named(0, "f", Some(2))),
         ("l", Place::Named(0, "l", Some(3))),
     ];
     for (path, place) in rows {
@@ -106,6 +108,7 @@ fn paths_that_are_refused(rt: HostRuntime) {
         ("f/", ErrorCode::NotDirectory),
         ("f//", ErrorCode::NotDirectory),
         ("f/./", ErrorCode::NotDirectory),
+        ("f/.//", ErrorCode::NotDirectory),
         ("f/..", ErrorCode::NotDirectory),
         ("f/x", ErrorCode::NotDirectory),
         ("l/", ErrorCode::NotDirectory),
@@ -205,6 +208,15 @@ fn components_one_by_one(rt: HostRuntime) {
     assert_eq!(rt; next_component("/b/"), Some(("b", "")));
     assert_eq!(rt; next_component("..a/./"), Some(("..a", "./")));
     assert_eq!(rt; next_component(".//."), None);
-    assert!(rt; has_trailing_slash("a/"));
-    assert!(rt; !has_trailing_slash("a/."));
+}
+
+/// The endings that the Rust crate's own tests of a trailing slash have.
+#[test]
+fn endings_of_paths(rt: HostRuntime) {
+    for path in ["/", "//", "f/", "f//", "f/./", "f/.//"] {
+        assert!(rt; has_trailing_slash(path), "{path}");
+    }
+    for path in ["f", "f.", "/./f", "..", "/..", ".", "/./.", "f//.", "f/./."] {
+        assert!(rt; !has_trailing_slash(path), "{path}");
+    }
 }

@@ -1,9 +1,10 @@
-ghost use Rattle.std.specs.Prelude.{◌≡◌, ◌+◌, ◌<◌, ◌^◌, length, Some, IfOk};
+ghost use Rattle.std.specs.Prelude.{◌≡◌, ◌+◌, ◌<◌, ◌^◌, [], length, Some, IfOk};
 ghost use Rattle.wasi_fs_nodes.specs.Nodes.{kind_at};
 ghost use Rattle.wasi_fs_nodes.specs.declared.node.Kind.TheVariants.{Directory};
 ghost use Rattle.wasi_fs_paths.specs.Components.{components};
-ghost use Rattle.wasi_fs_paths.specs.Paths.{back, into, past, last, walk, settled, resolved, found};
+ghost use Rattle.wasi_fs_paths.specs.Paths.{walk, settled, resolved, found};
 ghost use Rattle.wasi_fs_paths.specs.Places.{place_of, place_result, IsPlace};
+ghost use Rattle.wasi_fs_paths.specs.laws.Stands.{stand_back, stand_into, stand_past, stand_last, stand_walk};
 
 use crate::components::{
     has_leading_slash, has_trailing_slash, is_nothing, is_parent, next_component,
@@ -24,7 +25,7 @@ struct Stand {
 
 /// One directory back.
 fn back(nodes: &Nodes, stand: Stand) -> Result<Stand, ErrorCode>
-    ensures { result ≡ back nodes.now stand.depth stand.here }
+    ensures { result ≡ stand_back nodes.now stand.depth stand.here }
 {
     if stand.depth == 0 {
         return Err(ErrorCode::NotPermitted);
@@ -38,7 +39,7 @@ fn back(nodes: &Nodes, stand: Stand) -> Result<Stand, ErrorCode>
 /// On into the node of a name.
 fn into(nodes: &Nodes, depth: u64, entry: Option<u64>) -> Result<Stand, ErrorCode>
     requires { depth + 1 < 2 ^ 64 }
-    ensures { result ≡ into nodes.now depth entry }
+    ensures { result ≡ stand_into nodes.now depth entry }
 {
     let here = entry.ok_or(ErrorCode::NoEntry)?;
     match nodes.kind(here) {
@@ -55,7 +56,7 @@ fn into(nodes: &Nodes, depth: u64, entry: Option<u64>) -> Result<Stand, ErrorCod
 /// Where the walk stands after a component that is not the last one.
 fn past(nodes: &Nodes, stand: Stand, name: &str) -> Result<Stand, ErrorCode>
     requires { stand.depth + 1 < 2 ^ 64 }
-    ensures { result ≡ past nodes.now stand.depth stand.here name.now }
+    ensures { result ≡ stand_past nodes.now stand.depth stand.here name.now }
 {
     if is_parent(name) {
         return back(nodes, stand);
@@ -68,7 +69,7 @@ fn past(nodes: &Nodes, stand: Stand, name: &str) -> Result<Stand, ErrorCode>
 
 /// What the last component leads to.
 fn last<'a>(nodes: &Nodes, stand: Stand, name: &'a str) -> Result<Place<'a>, ErrorCode>
-    ensures { place_result result ≡ last nodes.now stand.depth stand.here name.now }
+    ensures { place_result result ≡ stand_last nodes.now stand.depth stand.here name.now }
 {
     if is_parent(name) {
         return match back(nodes, stand) {
@@ -82,9 +83,17 @@ fn last<'a>(nodes: &Nodes, stand: Stand, name: &'a str) -> Result<Place<'a>, Err
     Ok(Place::Named(stand.here, name, nodes.entry(stand.here, name)))
 }
 
-/// The walk along a path's components.
+/// The walk along a path's components. `..` goes back to the directory that it came from: that is
+/// the parent that each directory of a sound tree names.
 fn walk<'a>(nodes: &Nodes, start: u64, path: &'a str) -> Result<Place<'a>, ErrorCode>
-    ensures { place_result result ≡ walk nodes.now 0 start (components path.now) }
+    ensures { place_result result ≡ walk nodes.now [] start (components path.now) }
+{
+    let _ = nodes.root();
+    walk_on(nodes, start, path)
+}
+
+fn walk_on<'a>(nodes: &Nodes, start: u64, path: &'a str) -> Result<Place<'a>, ErrorCode>
+    ensures { place_result result ≡ stand_walk nodes.now 0 start (components path.now) }
 {
     let Some((first, after)) = next_component(path) else {
         return Ok(Place::Inside(start));

@@ -1,44 +1,41 @@
 ghost use Rattle.std.specs.Prelude.{◌≡◌, Some};
 ghost use Rattle.wasi_fs_nodes.specs.Nodes.{kind_at};
-ghost use Rattle.wasi_fs_nodes.specs.Outcome.{then, Leaves as LeavesNodes};
+ghost use Rattle.wasi_fs_nodes.specs.Outcome.{then, LeavesAlways as NodesAlways};
 ghost use Rattle.wasi_fs_nodes.specs.declared.node.Kind.TheVariants.{Directory};
 ghost use Rattle.wasi_fs_paths.specs.Paths.{resolved};
 ghost use Rattle.wasi_fs_paths.specs.Places.{place_of};
 ghost use Rattle.wasi_fs.specs.Calls.{there, directory_created, directory_removed_at, removed};
-ghost use Rattle.wasi_fs.specs.Outcome.{Leaves};
+ghost use Rattle.wasi_fs.specs.Outcome.{Leaves, LeavesAlways};
 ghost use Rattle.wasi_fs.specs.Trees.{IsOf, KeepsDescriptors};
 
 use crate::descriptor::Descriptor;
 use crate::laws::calls_keep_kinds;
 use crate::making::{New, THERE};
-use crate::outcome::from_store;
+use crate::outcome::told;
 use crate::times::time_of;
 use crate::tree::Tree;
 use wasi_base::TrappableError;
 use wasi_clocks::WallTime;
-use wasi_fs_nodes::{Nodes, StoreError};
+use wasi_fs_nodes::Nodes;
 use wasi_fs_paths::{Place, resolve};
 use wasi_fs_types::{ErrorCode, FilesystemResult};
 
-fn remove_at(nodes: &mut Nodes, place: Place<'_>) -> Result<(), StoreError>
-    ensures { LeavesNodes nodes.old nodes.new result (directory_removed_at nodes.old (place_of place.entry)) }
+fn remove_at(nodes: &mut Nodes, place: Place<'_>) -> Result<(), ErrorCode>
+    ensures { NodesAlways nodes.old nodes.new result (directory_removed_at nodes.old (place_of place.entry)) }
 {
     match place {
-        Place::Inside(_) => Err(StoreError::Code(ErrorCode::Invalid)),
-        Place::Named(dir, name, _) => match nodes.remove_directory(dir, name) {
-            Ok(()) => Ok(()),
-            Err(code) => Err(StoreError::Code(code)),
-        },
+        Place::Inside(_) => Err(ErrorCode::Invalid),
+        Place::Named(dir, name, _) => nodes.remove_directory(dir, name),
     }
 }
 
 /// A directory is removed by its path from another one.
-fn remove(nodes: &mut Nodes, start: u64, path: &str) -> Result<(), StoreError>
+fn remove(nodes: &mut Nodes, start: u64, path: &str) -> Result<(), ErrorCode>
     requires { kind_at nodes.old start ≡ Some Directory }
-    ensures { LeavesNodes nodes.old nodes.new result (then (resolved nodes.old start there path.now) (directory_removed_at nodes.old)) }
+    ensures { NodesAlways nodes.old nodes.new result (then (resolved nodes.old start there path.now) (directory_removed_at nodes.old)) }
 {
     match resolve(nodes, start, THERE, path) {
-        Err(code) => Err(StoreError::Code(code)),
+        Err(code) => Err(code),
         Ok(place) => remove_at(nodes, place),
     }
 }
@@ -85,7 +82,7 @@ impl Tree {
     /// `NotEmpty` where entries are left.
     pub fn remove_directory_at(&mut self, at: &Descriptor, path: &str) -> FilesystemResult<()>
         requires { IsOf self.old at.now }
-        ensures leaves { Leaves self.old self.new result (removed self.old.nodes at.now path.now) }
+        ensures leaves { LeavesAlways self.old self.new result (removed self.old.nodes at.now path.now) }
         ensures kept { KeepsDescriptors self.old self.new }
     {
         calls_keep_kinds();
@@ -94,12 +91,12 @@ impl Tree {
 
     fn take_directory(&mut self, at: &Descriptor, path: &str) -> FilesystemResult<()>
         requires { IsOf self.old at.now }
-        ensures { Leaves self.old self.new result (removed self.old.nodes at.now path.now) }
+        ensures { LeavesAlways self.old self.new result (removed self.old.nodes at.now path.now) }
     {
         let dir = match self.writable_directory(at) {
             Err(code) => return Err(TrappableError::Normal(code)),
             Ok(dir) => dir,
         };
-        from_store(remove(&mut self.nodes, dir.node, path))
+        told(remove(&mut self.nodes, dir.node, path))
     }
 }

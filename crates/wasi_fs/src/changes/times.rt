@@ -1,22 +1,22 @@
 ghost use Rattle.std.specs.Prelude.{◌≡◌, Some, Ok};
 ghost use Rattle.wasi_fs_nodes.specs.Bodies.{with_times};
 ghost use Rattle.wasi_fs_nodes.specs.Nodes.{kind_at};
-ghost use Rattle.wasi_fs_nodes.specs.Outcome.{then, Leaves as LeavesNodes};
+ghost use Rattle.wasi_fs_nodes.specs.Outcome.{then, LeavesAlways as NodesAlways};
 ghost use Rattle.wasi_fs_nodes.specs.declared.node.Kind.TheVariants.{Directory};
 ghost use Rattle.wasi_fs_paths.specs.Paths.{found};
 ghost use Rattle.wasi_fs.specs.Calls.{times_for, times_set, times_set_at};
-ghost use Rattle.wasi_fs.specs.Outcome.{Leaves};
+ghost use Rattle.wasi_fs.specs.Outcome.{LeavesAlways};
 ghost use Rattle.wasi_fs.specs.Trees.{IsOf, KeepsDescriptors};
 
 use crate::changes::flags::follows;
 use crate::descriptor::Descriptor;
 use crate::laws::calls_keep_kinds;
-use crate::outcome::from_store;
+use crate::outcome::told;
 use crate::times::new_time;
 use crate::tree::Tree;
 use wasi_base::TrappableError;
 use wasi_clocks::{Datetime, WallTime};
-use wasi_fs_nodes::{Nodes, StoreError};
+use wasi_fs_nodes::Nodes;
 use wasi_fs_paths::find;
 use wasi_fs_types::{ErrorCode, FilesystemResult, FsPerms, NewTimestamp, PathFlags};
 
@@ -43,12 +43,12 @@ fn set_at(
     path: &str,
     access: Option<Datetime>,
     modified: Option<Datetime>,
-) -> Result<(), StoreError>
+) -> Result<(), ErrorCode>
     requires { kind_at nodes.old start ≡ Some Directory }
-    ensures { LeavesNodes nodes.old nodes.new result (then (found nodes.old start follow path.now) (λ n. Ok (with_times nodes.old n access modified))) }
+    ensures { NodesAlways nodes.old nodes.new result (then (found nodes.old start follow path.now) (λ n. Ok (with_times nodes.old n access modified))) }
 {
     match find(nodes, start, follow, path) {
-        Err(code) => Err(StoreError::Code(code)),
+        Err(code) => Err(code),
         Ok(node) => {
             nodes.set_times(node, access, modified);
             Ok(())
@@ -71,7 +71,7 @@ impl Tree {
         now: WallTime,
     ) -> FilesystemResult<()>
         requires { IsOf self.old at.now }
-        ensures leaves { Leaves self.old self.new result (times_set self.old.nodes at.now access modified now) }
+        ensures leaves { LeavesAlways self.old self.new result (times_set self.old.nodes at.now access modified now) }
         ensures kept { KeepsDescriptors self.old self.new }
     {
         calls_keep_kinds();
@@ -86,7 +86,7 @@ impl Tree {
         now: WallTime,
     ) -> FilesystemResult<()>
         requires { IsOf self.old at.now }
-        ensures { Leaves self.old self.new result (times_set self.old.nodes at.now access modified now) }
+        ensures { LeavesAlways self.old self.new result (times_set self.old.nodes at.now access modified now) }
     {
         let (access, modified) = match times_for(access, modified, now) {
             Err(code) => return Err(TrappableError::Normal(code)),
@@ -115,7 +115,7 @@ impl Tree {
         now: WallTime,
     ) -> FilesystemResult<()>
         requires { IsOf self.old at.now }
-        ensures leaves { Leaves self.old self.new result (times_set_at self.old.nodes at.now flags path.now access modified now) }
+        ensures leaves { LeavesAlways self.old self.new result (times_set_at self.old.nodes at.now flags path.now access modified now) }
         ensures kept { KeepsDescriptors self.old self.new }
     {
         calls_keep_kinds();
@@ -132,7 +132,7 @@ impl Tree {
         now: WallTime,
     ) -> FilesystemResult<()>
         requires { IsOf self.old at.now }
-        ensures { Leaves self.old self.new result (times_set_at self.old.nodes at.now flags path.now access modified now) }
+        ensures { LeavesAlways self.old self.new result (times_set_at self.old.nodes at.now flags path.now access modified now) }
     {
         let (access, modified) = match times_for(access, modified, now) {
             Err(code) => return Err(TrappableError::Normal(code)),
@@ -143,6 +143,6 @@ impl Tree {
             Ok(dir) => dir,
         };
         let follow = follows(flags);
-        from_store(set_at(&mut self.nodes, dir.node, follow, path, access, modified))
+        told(set_at(&mut self.nodes, dir.node, follow, path, access, modified))
     }
 }

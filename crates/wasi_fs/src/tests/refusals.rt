@@ -329,8 +329,8 @@ fn names_that_are_not_moved(rt: HostRuntime) {
     }
 }
 
-/// The directory `d`, opened and then removed.
-fn removed(tree: &mut Tree) -> Option<Descriptor>
+/// A directory, opened and then removed.
+fn removed(tree: &mut Tree, path: &str) -> Option<Descriptor>
     ensures { IfSome result (IsOf tree.new) }
 {
     let root = root_of(tree);
@@ -338,7 +338,7 @@ fn removed(tree: &mut Tree) -> Option<Descriptor>
     match tree.open_at(
         &root,
         PathFlags::empty(),
-        "d",
+        path,
         OpenFlags::empty(),
         open,
         epoch(),
@@ -346,7 +346,7 @@ fn removed(tree: &mut Tree) -> Option<Descriptor>
     ) {
         Ok(directory) => {
             let root = root_of(tree);
-            let removed = tree.remove_directory_at(&root, "d").is_ok();
+            let removed = tree.remove_directory_at(&root, path).is_ok();
             if removed { Some(directory) } else { None }
         }
         Err(_) => None,
@@ -356,7 +356,7 @@ fn removed(tree: &mut Tree) -> Option<Descriptor>
 #[test]
 fn a_removed_directory_takes_no_entry(rt: HostRuntime) {
     let mut tree = moved_tree(&rt, rt.alloc());
-    match removed(&mut tree) {
+    match removed(&mut tree, "d") {
         Some(directory) => {
             let refused = code_of(tree.create_directory_at(&directory, "x", epoch()));
             assert_eq!(rt; refused, Some(ErrorCode::NoEntry));
@@ -370,11 +370,27 @@ fn a_removed_directory_takes_no_entry(rt: HostRuntime) {
 #[test]
 fn a_removed_directory_is_told(rt: HostRuntime) {
     let mut tree = moved_tree(&rt, rt.alloc());
-    match removed(&mut tree) {
+    match removed(&mut tree, "d") {
         Some(directory) => match tree.stat(&directory) {
             Ok(stat) => assert_eq!(rt; stat.link_count, 0),
             Err(_) => assert!(rt; false, "no stat"),
         },
+        None => assert!(rt; false, "not removed"),
+    }
+}
+
+/// What no entry names lies below nothing, also where it once stood below the directory that moves.
+#[test]
+fn a_directory_moves_into_a_removed_one(rt: HostRuntime) {
+    let mut tree = small_tree(&rt, rt.alloc());
+    let root = root_of(&tree);
+    assert!(rt; tree.create_directory_at(&root, "d/b", epoch()).is_ok());
+    match removed(&mut tree, "d/b") {
+        Some(directory) => {
+            let root = root_of(&tree);
+            let refused = code_of(tree.rename_at(&root, "d", &directory, "c"));
+            assert_eq!(rt; refused, Some(ErrorCode::NoEntry));
+        }
         None => assert!(rt; false, "not removed"),
     }
 }

@@ -9,4 +9,4 @@ pub returns-clause-place : goal.returns-clause-place
 returns-clause-place c =
     let P : Result Place ErrorCode → Type 0 = λ r. IfOk r (IsPlace c.args.nodes.now) in
     lent_place c.args.nodes.now c.look.result
-    (subst P (sym c.look.ensures) (if_resolved c.args.nodes.now c.root.ensures.rooted c.args.start c.args.wish c.args.path.now c.requires))
+    (subst P (sym c.look.ensures) (if_resolved c.args.nodes.now c.root.ensures.sound c.args.start c.args.wish c.args.path.now c.requires))

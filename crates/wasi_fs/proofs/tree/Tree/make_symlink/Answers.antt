@@ -9,7 +9,7 @@ use Rattle.wasi_fs.specs.Calls.{there_or_new, made_at}
 use Rattle.wasi_fs.specs.Outcome.{Leaves}
 use Rattle.wasi_fs.specs.Times.{time_of}
 use Rattle.wasi_fs.specs.Trees.{as_writable_directory}
-use Rattle.wasi_fs.proofs.ChangeFacts.{then_known, unless_not}
+use Rattle.wasi_fs.proofs.OutcomeFacts.{then_known, unless_not}
 use Rattle.wasi_fs.proofs.tree.Tree.make_symlink.Goals as goal
 
 pub returns : goal.returns

@@ -1,5 +1,6 @@
 use Rattle.std.specs.Prelude.{string_bytes}
-use Rattle.std.proofs.Common.{◌≡◌, ◌++◌, refl, rules, ap, sym, subst, append-nil, ◌∙◌}
+use Rattle.std.specs.Map.{keys_of}
+use Rattle.std.proofs.Common.{ℕ, List, ◌≡◌, ◌++◌, refl, rules, ap, sym, subst, append-nil, ◌∙◌}
 use Rattle.wasi_fs_nodes.specs.Names.{IsAscending, entries_of_map}
 use Rattle.wasi_fs_nodes.specs.Stats.{pairs_of}
 use Rattle.wasi_fs_nodes.proofs.EntryFacts.{ascending_bytes}
@@ -17,4 +18,5 @@ pub returns-clause-ascending : goal.returns-clause-ascending
 returns-clause-ascending c =
     let entries = ascending_bytes c.self.inside.map.entries c.iter-name-items.ensures.ordered in
     let all : pairs_of c.loop-name.entries.items ≡ c.args.self.now = sym (append-nil (pairs_of c.loop-name.entries.items)) ∙ ap (λ it. pairs_of c.loop-name.entries.items ++ entries_of_map it) (sym c.in-None.ensures.steps.0) ∙ c.loop-name.invariant in
-    subst IsAscending (c.self.view_is ∙ sym all) entries
+    let P : List (List ℕ × ℕ) → Type 0 = λ names. IsAscending (keys_of names) in
+    subst P (c.self.view_is ∙ sym all) entries

@@ -15,7 +15,7 @@ invariant_of-self-2 c =
     (counted_new c.self.inside.rows.items c.put_name.new.rows.items c.self.inside.bytes c.args.dir c.args.name.now c.args.node c.bytes-size.result c.self.invariant
     (ap (λ ns. kind_at ns c.args.dir) c.self.view_is ∙ c.requires.is_dir)
     (ap (λ ns. entry_at ns c.args.dir c.args.name.now) c.self.view_is ∙ c.requires.absent)
-    (let P : List Node → Type 0 = λ ns. IsFresh ns c.args.node in subst P (sym c.self.view_is) c.requires.fresh)
+    (let P : List Node → Type 0 = λ ns. IsFresh ns c.args.dir c.args.node in subst P (sym c.self.view_is) c.requires.fresh)
     c.bytes-size.ensures
     (c.in_ok-put_name.ensures.nodes ∙ ap (λ ns. with_name ns c.args.dir c.args.name.now c.len-number.result) (ap nodes_in c.in_ok-reserve.ensures.items) ∙ (let e : c.len-number.result ≡ length c.self.inside.rows.items = search rules in ap (with_name (nodes_in c.self.inside.rows.items) c.args.dir c.args.name.now) e))
     (c.in_ok-put_name.ensures.links ∙ ap links_list c.in_ok-reserve.ensures.items)

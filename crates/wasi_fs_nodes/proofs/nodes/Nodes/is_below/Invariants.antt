@@ -1,6 +1,6 @@
 use Rattle.std.proofs.Common.{◌≡◌, ◌-◌, length}
-use Rattle.wasi_fs_nodes.specs.Nodes.{below, is_below}
+use Rattle.wasi_fs_nodes.specs.laws.Climbs.{climbs_to, climbs}
 use Rattle.wasi_fs_nodes.proofs.nodes.Nodes.is_below.Given as goal
 
 abbrev pub invariant-loop : goal.invariant-loop
-invariant-loop l = below (length l.self - l.counter) l.self l.top l.here ≡ is_below l.self l.top l.dir
+invariant-loop l = climbs_to (length l.self - l.counter) l.self l.top l.here ≡ climbs l.self l.top l.dir
