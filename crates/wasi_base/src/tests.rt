@@ -4,6 +4,8 @@ use crate::{
 };
 use std::test::Fail;
 
+mod stream_errors;
+
 #[test]
 fn a_file_is_opened_at_the_first_read(rt: HostRuntime) -> Result<(), Fail> {
     let alloc = rt.alloc();

@@ -57,6 +57,19 @@ fn moments(rt: HostRuntime) -> Result<(), Fail> {
     };
     let datetime = Datetime::try_from(moment)?;
     assert_eq!(rt; (datetime.seconds, datetime.nanoseconds), (-1, 500_000_000));
+    let rows = [
+        ((true, 1, 0), (-1, 0)),
+        ((true, 0, 1), (-1, 999_999_999)),
+        ((false, 0, 500_000_000), (0, 500_000_000)),
+    ];
+    for ((before_epoch, seconds, nanoseconds), want) in rows {
+        let time = Datetime::try_from(Moment {
+            before_epoch,
+            seconds,
+            nanoseconds,
+        })?;
+        assert_eq!(rt; (time.seconds, time.nanoseconds), want);
+    }
     assert_eq!(rt; P2Datetime::try_from(moment), Err(DatetimeError));
     assert_eq!(rt; P2Datetime::try_from(datetime), Err(DatetimeError));
     assert_eq!(rt; Datetime::from(Instant::from(datetime)), datetime);
