@@ -9,8 +9,8 @@ use Rattle.wasi_p1.specs.declared.call.Call.{Call}
 use Rattle.wasi_p1.specs.declared.call.Call.TheVariants.{PollOneoff}
 use Rattle.wasi_p1.specs.declared.reply.Reply.{Reply}
 use Rattle.wasi_p1.specs.declared.reply.Reply.TheVariants as reply
-use Rattle.wasi_p1_types.specs.declared.p1.Errno.{Errno}
-use Rattle.wasi_p1_types.specs.declared.p1.Errno.TheVariants.{Nosys, Fault}
+use Rattle.wasi_p1_types.specs.declared.errno.Errno.{Errno}
+use Rattle.wasi_p1_types.specs.declared.errno.Errno.TheVariants.{Nosys, Fault}
 
 -- the replies that are left, and the calls so far
 pub record Recorder : Type 0 where
