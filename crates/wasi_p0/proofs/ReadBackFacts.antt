@@ -4,7 +4,8 @@ use Rattle.std.specs.Prelude.{◌==◌}
 use Rattle.byteorder.specs.Numbers.{little_from-lt}
 use Rattle.wasi_p0.proofs.FieldFacts.{length-put, number_at-put, number_at-before}
 use Rattle.wasi_p0.specs.Slot.{number_at, put, userdata_field, tag_field, clock_field, timeout_field, precision_field, flags_field, descriptor_field, clock_named, clock_number, known_flags, clock_wait, wait_for, slot_in, with_slot}
-use Rattle.wasi_p1_types.specs.Flags.{named_bits, subclockflags_table}
+use Rattle.wasi_flags.specs.Flags.{named_bits}
+use Rattle.wasi_p1_types.specs.Flags.{subclockflags_table}
 use Rattle.wasi_p1_types.specs.Records.{p1_subscription}
 use Rattle.wasi_p1_types.specs.declared.both.Clockid.{Clockid}
 use Rattle.wasi_p1_types.specs.declared.both.Clockid.TheVariants.{Realtime, Monotonic, ProcessCputimeId, ThreadCputimeId}

@@ -2,7 +2,8 @@
 -- lay a slot out alike.
 use Rattle.std.specs.Prelude.{ℕ, ◌==◌, List, ◌++◌, take, drop, Option, Some, None, Result, Ok, Err, if◌then◌else◌}
 use Rattle.byteorder.specs.Endian.{little_number, little_bytes}
-use Rattle.wasi_p1_types.specs.Flags.{named_bits, subclockflags_table}
+use Rattle.wasi_flags.specs.Flags.{named_bits}
+use Rattle.wasi_p1_types.specs.Flags.{subclockflags_table}
 use Rattle.wasi_p1_types.specs.declared.both.Clockid.{Clockid}
 use Rattle.wasi_p1_types.specs.declared.both.Clockid.TheVariants.{Realtime, Monotonic, ProcessCputimeId, ThreadCputimeId}
 use Rattle.wasi_p1_types.specs.declared.errno.Errno.{Errno}

@@ -1,6 +1,7 @@
 -- Flags and records of one preview as those of the other: by name, and field by field.
 use Rattle.std.specs.Prelude.{min}
-use Rattle.wasi_p1_types.specs.Flags.{named_bits, fdflags_table, rights_table, lookupflags_table, fstflags_table, oflags_table, subclockflags_table}
+use Rattle.wasi_flags.specs.Flags.{named_bits}
+use Rattle.wasi_p1_types.specs.Flags.{fdflags_table, rights_table, lookupflags_table, fstflags_table, oflags_table, subclockflags_table}
 use Rattle.wasi_p1_types.specs.declared.p0.flags.Fdflags as fdflags0
 use Rattle.wasi_p1_types.specs.declared.p1.flags.Fdflags as fdflags1
 use Rattle.wasi_p1_types.specs.declared.p0.flags.Rights as rights0
