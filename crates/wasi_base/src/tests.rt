@@ -42,6 +42,8 @@ fn read_whole<S: Source>(source: &mut S, alloc: Global) -> Result<Vec<u8>, Fail>
     Ok(bytes)
 }
 
+mod stream_errors;
+
 #[test]
 fn a_file_is_opened_at_the_first_read(rt: HostRuntime) -> Result<(), Fail> {
     let alloc = rt.alloc();

@@ -1,11 +1,12 @@
 -- Times of WASI 0.3.
-use Rattle.std.specs.Prelude.{ℕ, ℤ, pos, ◌+◌, ◌*◌, ◌/◌, ◌%◌, ◌^◌, ◌+ℤ◌, nat_lt, if◌then◌else◌, Option, Result, Ok, Err}
+use Rattle.std.specs.Prelude.{ℕ, ℤ, pos, ◌/◌, ◌%◌, ◌^◌, ◌+ℤ◌, nat_lt, if◌then◌else◌, Option, Result, Ok, Err}
 use Rattle.wasi_base.specs.declared.trap_text.TrapText.{TrapText}
 use Rattle.wasi_base.specs.declared.trap_text.TrapText.TheVariants.{NumberOutOfRange}
 use Rattle.wasi_clocks.specs.declared.datetimes.Datetime.{Datetime}
 use Rattle.wasi_clocks.specs.declared.instants.Instant.{Instant}
 use Rattle.wasi_clocks.specs.declared.wall_times.WallTime.{WallTime}
 use Rattle.wasi_clocks.specs.Datetimes.{datetime_at, time_at}
+use Rattle.wasi_clocks.specs.WallTimes.{nanoseconds_of}
 
 abbrev pub instant_to_datetime : Instant → Datetime
 instant_to_datetime instant = record { seconds = instant.seconds; nanoseconds = instant.nanoseconds }
@@ -31,6 +32,4 @@ instant_of_wall wall =
 
 -- a resolution in nanoseconds, where they are below 2 ^ 64
 abbrev pub nanoseconds_in : WallTime → Result ℕ TrapText
-nanoseconds_in res =
-    let total = res.seconds * 1000000000 + res.nanoseconds in
-    if nat_lt total (2 ^ 64) then Ok total else Err NumberOutOfRange
+nanoseconds_in res = if nat_lt (nanoseconds_of res) (2 ^ 64) then Ok (nanoseconds_of res) else Err NumberOutOfRange

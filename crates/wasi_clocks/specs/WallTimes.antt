@@ -18,6 +18,10 @@ nanoseconds_past moment =
     then (if moment.nanoseconds == 0 then 0 else 1000000000 - moment.nanoseconds)
     else moment.nanoseconds
 
+-- all of a wall time's nanoseconds
+abbrev pub nanoseconds_of : WallTime → ℕ
+nanoseconds_of time = time.seconds * 1000000000 + time.nanoseconds
+
 -- the nanoseconds since the epoch
 abbrev pub time_of_moment : Moment → ℤ
 time_of_moment moment =

@@ -23,14 +23,17 @@ pub struct P2Datetime {
 #[derive(Clone, Copy, Debug, PartialEq, Eq)]
 pub struct DatetimeError;
 
+/// The text as it is, also where a width or a precision is asked for.
 impl fmt::Display for DatetimeError {
     ghost use Rattle.std.specs.Prelude.{Some};
     ghost use Rattle.wasi_clocks.specs.Datetimes.{datetime_error_text};
 
     ghost output = { λ _. Some datetime_error_text };
 
+    ghost styled_output = { λ _ _. Some datetime_error_text };
+
     fn fmt<W: fmt::Write>(&self, f: &mut fmt::Formatter<W>) -> fmt::Result {
-        write!(f, "couldn't represent time as a WASI `Datetime`")
+        f.write_str("couldn't represent time as a WASI `Datetime`")
     }
 }
 

@@ -1,10 +1,9 @@
 use super::*;
 use std::cell::Cell;
-use std::io;
-use std::rt::Clock;
 use std::test::Fail;
-use std::time::Duration;
 use wasi_base::TrapText;
+
+mod runtime;
 
 #[derive(Drop)]
 struct FixedWallClock {
@@ -49,33 +48,6 @@ impl HostMonotonicClock for FixedMonotonicClock {
     }
 }
 
-/// A runtime's clocks: the monotonic one goes on by `step` at each reading, and the wall clock
-/// cannot be read.
-#[derive(Drop)]
-struct SteppingClock {
-    monotonic: Cell<Duration>,
-    step: Duration,
-}
-
-impl Clock for SteppingClock {
-    fn monotonic(&self) -> io::Result<Duration> {
-        let reading = self.monotonic.get();
-        self.monotonic.set(reading.saturating_add(self.step));
-        Ok(reading)
-    }
-
-    fn since_1970(&self) -> io::Result<Duration> {
-        Err(io::Error::from(io::ErrorKind::Other))
-    }
-}
-
-fn stepping(step: Duration) -> SteppingClock {
-    SteppingClock {
-        monotonic: Cell::new(Duration::from_secs(5)),
-        step,
-    }
-}
-
 #[test]
 fn moments(rt: HostRuntime) -> Result<(), Fail> {
     let moment = Moment {
@@ -85,6 +57,19 @@ fn moments(rt: HostRuntime) -> Result<(), Fail> {
     };
     let datetime = Datetime::try_from(moment)?;
     assert_eq!(rt; (datetime.seconds, datetime.nanoseconds), (-1, 500_000_000));
+    let rows = [
+        ((true, 1, 0), (-1, 0)),
+        ((true, 0, 1), (-1, 999_999_999)),
+        ((false, 0, 500_000_000), (0, 500_000_000)),
+    ];
+    for ((before_epoch, seconds, nanoseconds), want) in rows {
+        let time = Datetime::try_from(Moment {
+            before_epoch,
+            seconds,
+            nanoseconds,
+        })?;
+        assert_eq!(rt; (time.seconds, time.nanoseconds), want);
+    }
     assert_eq!(rt; P2Datetime::try_from(moment), Err(DatetimeError));
     assert_eq!(rt; P2Datetime::try_from(datetime), Err(DatetimeError));
     assert_eq!(rt; Datetime::from(Instant::from(datetime)), datetime);
@@ -98,6 +83,8 @@ fn moments(rt: HostRuntime) -> Result<(), Fail> {
         text.as_str(),
         "couldn't represent time as a WASI `Datetime`"
     );
+    let wide = format!(in rt.alloc(); "{DatetimeError:>60.5}")?;
+    assert_eq!(rt; wide.as_str(), text.as_str());
     Ok(())
 }
 
@@ -181,29 +168,71 @@ fn held_clocks(rt: HostRuntime) -> Result<(), Fail> {
     Ok(())
 }
 
-#[test]
-fn runtime_wall_clock(rt: HostRuntime) -> Result<(), Fail> {
-    let clock = WallClock::new(rt.clone()?);
-    // 2020-01-01, long past where this is run.
-    assert!(rt; clock.now().seconds > 1_577_836_800);
-    assert_eq!(rt;
-        (clock.resolution().seconds, clock.resolution().nanoseconds),
-        (0, 1)
-    );
-    let unread = wall_clock(stepping(Duration::ZERO)).now();
-    assert_eq!(rt; (unread.seconds, unread.nanoseconds), (0, 0));
-    Ok(())
+/// A caller's clock whose every asking is one step of it.
+#[derive(Drop)]
+struct AskedClock {
+    asked: Cell<u32>,
+}
+
+impl AskedClock {
+    fn ask(&self) -> u32 {
+        let asked = self.asked.get();
+        self.asked.set(asked.wrapping_add(1));
+        asked
+    }
+
+    fn ask_for_seconds(&self) -> WallTime {
+        WallTime {
+            seconds: u64::from(self.ask()),
+            nanoseconds: 0,
+        }
+    }
+}
+
+impl HostWallClock for AskedClock {
+    ghost use Rattle.std.specs.Prelude.{None};
+
+    ghost wall_now_told = { λ _. None };
+
+    ghost wall_resolution_told = { λ _. None };
+
+    fn resolution(&self) -> WallTime {
+        self.ask_for_seconds()
+    }
+
+    fn now(&self) -> WallTime {
+        self.ask_for_seconds()
+    }
+}
+
+impl HostMonotonicClock for AskedClock {
+    ghost use Rattle.std.specs.Prelude.{None};
+
+    ghost mono_now_told = { λ _. None };
+
+    ghost mono_resolution_told = { λ _. None };
+
+    fn resolution(&self) -> u64 {
+        u64::from(self.ask())
+    }
+
+    fn now(&self) -> u64 {
+        u64::from(self.ask())
+    }
 }
 
 #[test]
-fn runtime_monotonic_clock(rt: HostRuntime) -> Result<(), Fail> {
-    let clock = MonotonicClock::new(rt.clone()?);
-    let first = clock.now();
-    assert!(rt; first <= clock.now());
-    assert_eq!(rt; clock.resolution(), 1);
-    let three = Duration::from_nanos(3);
-    assert_eq!(rt; monotonic_clock(stepping(three)).now(), 3);
-    let past_u64 = Duration::from_secs(20_000_000_000);
-    assert_eq!(rt; monotonic_clock(stepping(past_u64)).now(), u64::MAX);
+fn a_callers_clock_is_asked_once_an_answer(rt: HostRuntime) -> Result<(), Fail> {
+    let mut clocks = WasiClocksCtx::default();
+    let asked = Cell::new(0);
+    clocks.hold_wall_clock(Box::new(rt.alloc(), AskedClock { asked })?);
+    let asked = Cell::new(0);
+    clocks.hold_monotonic_clock(Box::new(rt.alloc(), AskedClock { asked })?);
+    for i in 0..3u64 {
+        assert_eq!(rt; clocks.wall_now().seconds, 2 * i);
+        assert_eq!(rt; clocks.wall_resolution().seconds, 2 * i + 1);
+        assert_eq!(rt; clocks.mono_now(), 2 * i);
+        assert_eq!(rt; clocks.mono_resolution(), 2 * i + 1);
+    }
     Ok(())
 }

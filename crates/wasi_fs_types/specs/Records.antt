@@ -1,7 +1,8 @@
 -- Flags and records of the host as those of WASI 0.3 and back: by name, and field by field.
 use Rattle.std.specs.Prelude.{option_map}
 use Rattle.wasi_clocks.specs.Instants.{datetime_to_instant}
-use Rattle.wasi_fs_types.specs.Flags.{named_bits, descriptor_flags_table, open_flags_table, path_flags_table}
+use Rattle.wasi_flags.specs.Flags.{named_bits}
+use Rattle.wasi_fs_types.specs.Flags.{descriptor_flags_table, open_flags_table, path_flags_table}
 use Rattle.wasi_fs_types.specs.Names.{p3_type}
 use Rattle.wasi_fs_types.specs.declared.flags.DescriptorFlags as host_descriptor
 use Rattle.wasi_fs_types.specs.declared.flags.OpenFlags as host_open

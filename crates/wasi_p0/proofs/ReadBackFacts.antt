@@ -4,13 +4,13 @@ use Rattle.std.specs.Prelude.{◌==◌}
 use Rattle.byteorder.specs.Numbers.{little_from-lt}
 use Rattle.wasi_p0.proofs.FieldFacts.{length-put, number_at-put, number_at-before}
 use Rattle.wasi_p0.specs.Slot.{number_at, put, userdata_field, tag_field, clock_field, timeout_field, precision_field, flags_field, descriptor_field, clock_named, clock_number, known_flags, clock_wait, wait_for, slot_in, with_slot}
-use Rattle.wasi_p1_types.specs.Clockid.{p1_clockid}
-use Rattle.wasi_p1_types.specs.Flags.{named_bits, subclockflags_table}
+use Rattle.wasi_flags.specs.Flags.{named_bits}
+use Rattle.wasi_p1_types.specs.Flags.{subclockflags_table}
 use Rattle.wasi_p1_types.specs.Records.{p1_subscription}
-use Rattle.wasi_p1_types.specs.declared.p0.Clockid.{Clockid}
-use Rattle.wasi_p1_types.specs.declared.p0.Clockid.TheVariants.{Realtime, Monotonic, ProcessCputimeId, ThreadCputimeId}
-use Rattle.wasi_p1_types.specs.declared.p0.Errno.{Errno}
-use Rattle.wasi_p1_types.specs.declared.p0.Errno.TheVariants.{Inval}
+use Rattle.wasi_p1_types.specs.declared.both.Clockid.{Clockid}
+use Rattle.wasi_p1_types.specs.declared.both.Clockid.TheVariants.{Realtime, Monotonic, ProcessCputimeId, ThreadCputimeId}
+use Rattle.wasi_p1_types.specs.declared.errno.Errno.{Errno}
+use Rattle.wasi_p1_types.specs.declared.errno.Errno.TheVariants.{Inval}
 use Rattle.wasi_p1_types.specs.declared.p0.Subscription.{Subscription}
 use Rattle.wasi_p1_types.specs.declared.p0.SubscriptionU.{SubscriptionU}
 use Rattle.wasi_p1_types.specs.declared.p0.SubscriptionU.TheVariants.{Clock, FdRead, FdWrite}
@@ -87,7 +87,7 @@ slot-fits bytes slot small is =
     (λ f. known (named_bits subclockflags_table (number_at flags_field bytes) == number_at flags_field bytes) (number_at flags_field bytes) f (eqb-true _ _) (little_from-lt 0 2 (drop 40 bytes) (bytes-drop 40 bytes small)))
     is
 
-clock_named-number : (id : Clockid) → clock_named (clock_number (p1_clockid id)) ≡ Some id
+clock_named-number : (id : Clockid) → clock_named (clock_number id) ≡ Some id
 clock_named-number Realtime = refl
 clock_named-number Monotonic = refl
 clock_named-number ProcessCputimeId = refl
@@ -128,7 +128,7 @@ descriptor-back tag userdata descriptor bytes g u d whole =
     (number_at-before 8 1 16 4 descriptor second (omega arith) (omega arith) whole2 ∙ number_at-put 8 1 tag first (omega arith) whole1 g)
     (number_at-put 16 4 descriptor second (omega arith) whole2 d)
 
-clock_small : (id : Clockid) → clock_number (p1_clockid id) < 256 ^ 4
+clock_small : (id : Clockid) → clock_number id < 256 ^ 4
 clock_small Realtime = omega arith
 clock_small Monotonic = omega arith
 clock_small ProcessCputimeId = omega arith
@@ -172,7 +172,7 @@ clock-back userdata clock timeout precision flags bytes u k t p f whole =
 by_wait : (userdata : ℕ) (wait : SubscriptionU) (bytes : List ℕ) → userdata < 256 ^ 8 → IsWait wait → length bytes ≡ 48 → slot_in (with_slot (p1_subscription (record { userdata = userdata; u = wait })) bytes) ≡ Ok (record { userdata = userdata; u = wait })
 by_wait userdata (Clock clock) bytes u fits whole =
     let small : named_bits subclockflags_table clock.flags.0 < 256 ^ 2 = (let P : ℕ → Type 0 = λ n. n < 256 ^ 2 in subst P (sym fits.3) fits.2) in
-    clock-back userdata (clock_number (p1_clockid clock.id)) clock.timeout clock.precision (named_bits subclockflags_table clock.flags.0) bytes u (clock_small clock.id) fits.0 fits.1 small whole
+    clock-back userdata (clock_number clock.id) clock.timeout clock.precision (named_bits subclockflags_table clock.flags.0) bytes u (clock_small clock.id) fits.0 fits.1 small whole
     ∙ ap (λ (id : Option Clockid). wait_for userdata (clock_wait id (known_flags (named_bits subclockflags_table clock.flags.0)) clock.timeout clock.precision)) (clock_named-number clock.id)
     ∙ ap (λ (flags : Option Subclockflags). wait_for userdata (clock_wait (Some clock.id) flags clock.timeout clock.precision)) (known_flags-named clock.flags fits.3)
 by_wait userdata (FdRead wait) bytes u fits whole = descriptor-back 1 userdata wait.file_descriptor bytes (omega arith) u fits whole

@@ -7,16 +7,14 @@ use Rattle.wasi_base.specs.declared.trappable.TrappableError.{TrappableError}
 use Rattle.wasi_base.specs.declared.trappable.TrappableError.TheVariants.{Normal, OutOfMemory}
 use Rattle.wasi_p0.proofs.ReadBackFacts.{AreBytes, bytes-take, bytes-drop, reads_back}
 use Rattle.wasi_p0.proofs.WindowFacts.{length-overwritten, window-overwritten, window-before, window-after, slot_at-window}
-use Rattle.wasi_p0.specs.Poll.{AfterCall, AfterRewriting, AfterFuel, PollsOneoff, ReadsAsBefore, counted}
-use Rattle.wasi_p0.specs.Converted.{p0_error}
+use Rattle.wasi_p0.specs.Poll.{Standing, Polled, Waits, AfterCall, AfterRewriting, AfterFuel, PollsOneoff, ReadsAsBefore, counted}
 use Rattle.wasi_p0.specs.Slot.{slot_in, with_slot}
 use Rattle.wasi_p0.specs.Slots.{window, slot_at, overwritten, Rewriting, rewriting, one_more, and_then_one, Restoring, restoring}
 use Rattle.wasi_p1_types.specs.Records.{p1_subscription}
-use Rattle.wasi_p1_types.specs.declared.p0.Errno.{Errno}
-use Rattle.wasi_p1_types.specs.declared.p0.Errno.TheVariants.{Fault}
+use Rattle.wasi_p1_types.specs.declared.errno.Errno.{Errno}
+use Rattle.wasi_p1_types.specs.declared.errno.Errno.TheVariants.{Fault}
 use Rattle.wasi_p1_types.specs.declared.p0.Subscription.{Subscription}
 use Rattle.wasi_p1_types.specs.declared.p0.SubscriptionU.TheVariants.{FdRead}
-use Rattle.wasi_p1_types.specs.declared.p1.Errno as one
 
 -- a slot that was read lies in the memory
 inside : (test : Bool) (read : Result Subscription Errno) (slot : Subscription) → cond test read (Err Fault) ≡ Ok slot → (test ≡ true) × (read ≡ Ok slot)
@@ -149,37 +147,37 @@ kept_reads place n memory slots here left new d small first back i below =
     after.reads i d (omega arith) ∙ sym (is.kept i d below)
 
 -- after an error nothing is said of the slots
-failed : (n subs : ℕ) (old new : List ℕ) (answer : Result ℕ (TrappableError Errno)) (error : TrappableError Errno) → answer ≡ Err error → OnOk answer (ReadsAsBefore subs n old new)
-failed n subs old new answer error is =
-    let P : Result ℕ (TrappableError Errno) → Type 0 = λ r. OnOk r (ReadsAsBefore subs n old new) in subst P (sym is) tt
+failed : (waits : Waits) (old new : List ℕ) (answer : Result ℕ (TrappableError Errno)) (error : TrappableError Errno) → answer ≡ Err error → OnOk answer (ReadsAsBefore waits old new)
+failed waits old new answer error is =
+    let P : Result ℕ (TrappableError Errno) → Type 0 = λ r. OnOk r (ReadsAsBefore waits old new) in subst P (sym is) tt
 
-by_restoring : (subs n count : ℕ) (slots : List Subscription) (memory here left new : List ℕ) (answer : Result ℕ (TrappableError Errno)) (done : Result (Unit {0}) Errno) → AreBytes memory → rewriting subs n memory ≡ record { kept = Ok slots; memory = here } → (restoring subs slots left).answer ≡ done → new ≡ (restoring subs slots left).memory → answer ≡ counted count done → OnOk answer (ReadsAsBefore subs n memory new)
-by_restoring subs n count slots memory here left new answer (Ok done) small first ends same is =
-    let restoring_is : restoring subs slots left ≡ record { answer = Ok tt; memory = new } =
-    ap (λ (a : Result (Unit {0}) Errno). record { answer = a; memory = (restoring subs slots left).memory }) ends
+by_restoring : (waits : Waits) (count : ℕ) (slots : List Subscription) (memory here left new : List ℕ) (answer : Result ℕ (TrappableError Errno)) (done : Result (Unit {0}) Errno) → AreBytes memory → rewriting waits.place waits.count memory ≡ record { kept = Ok slots; memory = here } → (restoring waits.place slots left).answer ≡ done → new ≡ (restoring waits.place slots left).memory → answer ≡ counted count done → OnOk answer (ReadsAsBefore waits memory new)
+by_restoring waits count slots memory here left new answer (Ok done) small first ends same is =
+    let restoring_is : restoring waits.place slots left ≡ record { answer = Ok tt; memory = new } =
+    ap (λ (a : Result (Unit {0}) Errno). record { answer = a; memory = (restoring waits.place slots left).memory }) ends
     ∙ ap (λ (m : List ℕ). record { answer = Ok tt; memory = m }) (sym same) in
-    let P : Result ℕ (TrappableError Errno) → Type 0 = λ r. OnOk r (ReadsAsBefore subs n memory new) in
-    let reads : ReadsAsBefore subs n memory new = kept_reads subs n memory slots here left new (record { userdata = 0; u = FdRead (record { file_descriptor = 0 }) }) small first restoring_is in
+    let P : Result ℕ (TrappableError Errno) → Type 0 = λ r. OnOk r (ReadsAsBefore waits memory new) in
+    let reads : ReadsAsBefore waits memory new = kept_reads waits.place waits.count memory slots here left new (record { userdata = 0; u = FdRead (record { file_descriptor = 0 }) }) small first restoring_is in
     subst P (sym is) reads
-by_restoring subs n count slots memory here left new answer (Err errno) small first ends same is = failed n subs memory new answer (Normal errno) is
+by_restoring waits count slots memory here left new answer (Err errno) small first ends same is = failed waits memory new answer (Normal errno) is
 
-after_call : (subs n : ℕ) (slots : List Subscription) (memory here left new : List ℕ) (polled : Result ℕ (TrappableError one.Errno)) (answer : Result ℕ (TrappableError Errno)) → AreBytes memory → rewriting subs n memory ≡ record { kept = Ok slots; memory = here } → AfterCall subs slots polled left answer new → OnOk answer (ReadsAsBefore subs n memory new)
-after_call subs n slots memory here left new (Ok count) answer small first is =
-    by_restoring subs n count slots memory here left new answer (restoring subs slots left).answer small first refl is.1 is.0
-after_call subs n slots memory here left new (Err error) answer small first is = failed n subs memory new answer (p0_error error) is.0
+after_call : {T : Type 0} → (waits : Waits) (slots : List Subscription) (memory here left : List ℕ) (called : Result ℕ (TrappableError Errno)) (after : Polled T) → AreBytes memory → rewriting waits.place waits.count memory ≡ record { kept = Ok slots; memory = here } → AfterCall waits.place slots called left after → OnOk after.answer (ReadsAsBefore waits memory after.memory)
+after_call waits slots memory here left (Ok count) after small first is =
+    by_restoring waits count slots memory here left after.memory after.answer (restoring waits.place slots left).answer small first refl is.1 is.0
+after_call waits slots memory here left (Err error) after small first is = failed waits memory after.memory after.answer error is.0
 
-after_rewriting : {T : Type 0} → (Polls : T → List ℕ → Result ℕ (TrappableError one.Errno) → T → List ℕ → Type 0) (subs n : ℕ) (before : T) (memory here new : List ℕ) (kept : Result (List Subscription) Errno) (answer : Result ℕ (TrappableError Errno)) (after : T) → AreBytes memory → rewriting subs n memory ≡ record { kept = kept; memory = here } → AfterRewriting Polls subs before kept here answer after new → OnOk answer (ReadsAsBefore subs n memory new)
-after_rewriting Polls subs n before memory here new (Ok slots) answer after small first is =
-    after_call subs n slots memory here is.1 new is.0 answer small first is.3
-after_rewriting Polls subs n before memory here new (Err errno) answer after small first is = failed n subs memory new answer (Normal errno) is.0
+after_rewriting : {T : Type 0} → (Polls : T → List ℕ → Result ℕ (TrappableError Errno) → T → List ℕ → Type 0) (waits : Waits) (object : T) (memory here : List ℕ) (kept : Result (List Subscription) Errno) (after : Polled T) → AreBytes memory → rewriting waits.place waits.count memory ≡ record { kept = kept; memory = here } → AfterRewriting Polls waits.place kept (record { object = object; memory = here }) after → OnOk after.answer (ReadsAsBefore waits memory after.memory)
+after_rewriting Polls waits object memory here (Ok slots) after small first is =
+    after_call waits slots memory here is.left is.answer after small first is.ends
+after_rewriting Polls waits object memory here (Err errno) after small first is = failed waits memory after.memory after.answer (Normal errno) is.answer
 
-after_fuel : {T : Type 0} → (Polls : T → List ℕ → Result ℕ (TrappableError one.Errno) → T → List ℕ → Type 0) (subs n : ℕ) (before : T) (memory new : List ℕ) (paid : Result (Unit {0}) (TrappableError one.Errno)) (answer : Result ℕ (TrappableError Errno)) (after : T) → AreBytes memory → AfterFuel Polls subs n before memory paid answer after new → OnOk answer (ReadsAsBefore subs n memory new)
-after_fuel Polls subs n before memory new (Ok paid) answer after small (inl is) =
-    after_rewriting Polls subs n before memory (rewriting subs n memory).memory new (rewriting subs n memory).kept answer after small refl is
-after_fuel Polls subs n before memory new (Ok paid) answer after small (inr is) = failed n subs memory new answer OutOfMemory is.0
-after_fuel Polls subs n before memory new (Err error) answer after small is = failed n subs memory new answer (p0_error error) is.0
+after_fuel : {T : Type 0} → (Polls : T → List ℕ → Result ℕ (TrappableError Errno) → T → List ℕ → Type 0) (waits : Waits) (paid : Result (Unit {0}) (TrappableError Errno)) (object : T) (memory : List ℕ) (after : Polled T) → AreBytes memory → AfterFuel Polls waits paid (record { object = object; memory = memory }) after → OnOk after.answer (ReadsAsBefore waits memory after.memory)
+after_fuel Polls waits (Ok paid) object memory after small (inl is) =
+    after_rewriting Polls waits object memory (rewriting waits.place waits.count memory).memory (rewriting waits.place waits.count memory).kept after small refl is
+after_fuel Polls waits (Ok paid) object memory after small (inr is) = failed waits memory after.memory after.answer OutOfMemory is.refused.answer
+after_fuel Polls waits (Err error) object memory after small is = failed waits memory after.memory after.answer error is.answer
 
 -- after a poll that succeeded each slot reads as before it
-pub restores : {T : Type 0} → (Fuel : T → ℕ → Result (Unit {0}) (TrappableError one.Errno) → T → Type 0) (Polls : T → List ℕ → Result ℕ (TrappableError one.Errno) → T → List ℕ → Type 0) (subs n : ℕ) (before : T) (memory new : List ℕ) (answer : Result ℕ (TrappableError Errno)) (after : T) → AreBytes memory → PollsOneoff Fuel Polls subs n before memory answer after new → OnOk answer (ReadsAsBefore subs n memory new)
-restores Fuel Polls subs n before memory new answer after small is =
-    after_fuel Polls subs n is.1 memory new is.0 answer after small is.3
+pub restores : {T : Type 0} → (Fuel : T → ℕ → Result (Unit {0}) (TrappableError Errno) → T → Type 0) (Polls : T → List ℕ → Result ℕ (TrappableError Errno) → T → List ℕ → Type 0) (waits : Waits) (before : Standing T) (after : Polled T) → AreBytes before.memory → PollsOneoff Fuel Polls waits before after → OnOk after.answer (ReadsAsBefore waits before.memory after.memory)
+restores Fuel Polls waits before after small is =
+    after_fuel Polls waits is.paid is.fuelled before.memory after small is.ends

@@ -7,8 +7,8 @@ use Rattle.wasi_base.specs.declared.trappable.TrappableError.TheVariants.{Normal
 use Rattle.wasi_p0.specs.Poll.{RefusesSlot, StopsRewriting}
 use Rattle.wasi_p0.specs.Slots.{Rewriting, Restoring, rewriting, restoring, one_more, and_then_one, overwritten, slot_at}
 use Rattle.wasi_p1_types.specs.Records.{p1_subscription}
-use Rattle.wasi_p1_types.specs.declared.p0.Errno.{Errno}
-use Rattle.wasi_p1_types.specs.declared.p0.Errno.TheVariants.{Fault}
+use Rattle.wasi_p1_types.specs.declared.errno.Errno.{Errno}
+use Rattle.wasi_p1_types.specs.declared.errno.Errno.TheVariants.{Fault}
 use Rattle.wasi_p1_types.specs.declared.p0.Subscription.{Subscription}
 
 -- one more slot

@@ -4,8 +4,8 @@ use Rattle.std.specs.Prelude.{nat_le}
 use Rattle.std.proofs.lemmas.Bool.{le-leb}
 use Rattle.wasi_p0.specs.Slot.{slot_in, with_slot}
 use Rattle.wasi_p0.specs.Slots.{window, slot_at, overwritten}
-use Rattle.wasi_p1_types.specs.declared.p0.Errno.{Errno}
-use Rattle.wasi_p1_types.specs.declared.p0.Errno.TheVariants.{Fault}
+use Rattle.wasi_p1_types.specs.declared.errno.Errno.{Errno}
+use Rattle.wasi_p1_types.specs.declared.errno.Errno.TheVariants.{Fault}
 use Rattle.wasi_p1_types.specs.declared.p0.Subscription.{Subscription}
 use Rattle.wasi_p1_types.specs.declared.p1.Subscription as subscription1
 use borrow.Rule.Slice.PartMut.{put_mid}

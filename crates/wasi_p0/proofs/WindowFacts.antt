@@ -6,7 +6,7 @@ use Rattle.std.proofs.lemmas.Slice.{take-put_mid_below, drop-put_mid, between-pu
 use Rattle.wasi_p0.proofs.FieldFacts.{length-put}
 use Rattle.wasi_p0.specs.Slot.{slot_in, with_slot, with_wait, clock_number, put, userdata_field}
 use Rattle.wasi_p0.specs.Slots.{window, slot_at, overwritten}
-use Rattle.wasi_p1_types.specs.declared.p0.Errno.TheVariants.{Fault}
+use Rattle.wasi_p1_types.specs.declared.errno.Errno.TheVariants.{Fault}
 use Rattle.wasi_p1_types.specs.declared.p1.Subscription as subscription1
 use Rattle.wasi_p1_types.specs.declared.p1.SubscriptionU as subscriptionu1
 use Rattle.wasi_p1_types.specs.declared.p1.SubscriptionU.TheVariants.{Clock, FdRead, FdWrite}

@@ -2,17 +2,16 @@
 -- lay a slot out alike.
 use Rattle.std.specs.Prelude.{ℕ, ◌==◌, List, ◌++◌, take, drop, Option, Some, None, Result, Ok, Err, if◌then◌else◌}
 use Rattle.byteorder.specs.Endian.{little_number, little_bytes}
-use Rattle.wasi_p1_types.specs.Flags.{named_bits, subclockflags_table}
-use Rattle.wasi_p1_types.specs.declared.p0.Clockid.{Clockid}
-use Rattle.wasi_p1_types.specs.declared.p0.Clockid.TheVariants.{Realtime, Monotonic, ProcessCputimeId, ThreadCputimeId}
-use Rattle.wasi_p1_types.specs.declared.p0.Errno.{Errno}
-use Rattle.wasi_p1_types.specs.declared.p0.Errno.TheVariants.{Inval}
+use Rattle.wasi_flags.specs.Flags.{named_bits}
+use Rattle.wasi_p1_types.specs.Flags.{subclockflags_table}
+use Rattle.wasi_p1_types.specs.declared.both.Clockid.{Clockid}
+use Rattle.wasi_p1_types.specs.declared.both.Clockid.TheVariants.{Realtime, Monotonic, ProcessCputimeId, ThreadCputimeId}
+use Rattle.wasi_p1_types.specs.declared.errno.Errno.{Errno}
+use Rattle.wasi_p1_types.specs.declared.errno.Errno.TheVariants.{Inval}
 use Rattle.wasi_p1_types.specs.declared.p0.Subscription.{Subscription}
 use Rattle.wasi_p1_types.specs.declared.p0.SubscriptionU.{SubscriptionU}
 use Rattle.wasi_p1_types.specs.declared.p0.SubscriptionU.TheVariants.{Clock, FdRead, FdWrite}
 use Rattle.wasi_p1_types.specs.declared.p0.flags.Subclockflags.{Subclockflags}
-use Rattle.wasi_p1_types.specs.declared.p1.Clockid as clockid1
-use Rattle.wasi_p1_types.specs.declared.p1.Clockid.TheVariants as clock1
 use Rattle.wasi_p1_types.specs.declared.p1.Subscription as subscription1
 use Rattle.wasi_p1_types.specs.declared.p1.SubscriptionClock as subscriptionclock1
 use Rattle.wasi_p1_types.specs.declared.p1.SubscriptionU as subscriptionu1
@@ -61,11 +60,11 @@ clock_named number =
     else if number == 3 then Some ThreadCputimeId
     else None
 
-abbrev pub clock_number : clockid1.Clockid → ℕ
-clock_number clock1.Realtime = 0
-clock_number clock1.Monotonic = 1
-clock_number clock1.ProcessCputimeId = 2
-clock_number clock1.ThreadCputimeId = 3
+abbrev pub clock_number : Clockid → ℕ
+clock_number Realtime = 0
+clock_number Monotonic = 1
+clock_number ProcessCputimeId = 2
+clock_number ThreadCputimeId = 3
 
 abbrev pub known_flags : ℕ → Option Subclockflags
 known_flags bits = if named_bits subclockflags_table bits == bits then Some (record { 0 = bits }) else None

@@ -2,8 +2,8 @@
 use Rattle.std.specs.Prelude.{ℕ, zero, suc, ◌+◌, ◌*◌, nat_le, List, [], ◌∷◌, ◌++◌, length, take, drop, Result, Ok, Err, if◌then◌else◌}
 use Rattle.wasi_p0.specs.Slot.{slot_in, with_slot}
 use Rattle.wasi_p1_types.specs.Records.{p1_subscription}
-use Rattle.wasi_p1_types.specs.declared.p0.Errno.{Errno}
-use Rattle.wasi_p1_types.specs.declared.p0.Errno.TheVariants.{Fault}
+use Rattle.wasi_p1_types.specs.declared.errno.Errno.{Errno}
+use Rattle.wasi_p1_types.specs.declared.errno.Errno.TheVariants.{Fault}
 use Rattle.wasi_p1_types.specs.declared.p0.Subscription.{Subscription}
 use Rattle.wasi_p1_types.specs.declared.p1.Subscription as subscription1
 

@@ -1,7 +1,6 @@
 //! Preview 0, over an object that has the calls of preview 1.
 #![tactic(auto)]
 
-mod error;
 mod poll;
 mod slot;
 mod unstable;

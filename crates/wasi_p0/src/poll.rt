@@ -4,7 +4,6 @@ ghost use Rattle.wasi_p0.specs.Slots.{one_more, overwritten, restoring, rewritin
 ghost use Rattle.wasi_p1.specs.declared.call.Call.{Call};
 ghost use Rattle.wasi_p1_types.specs.Records.{p1_subscription};
 
-use crate::error::error_of;
 use crate::slot::{self, SIZE};
 use std::alloc::Global;
 use wasi_p1::p0::{Errno, Error, Subscription};
@@ -99,14 +98,14 @@ fn call<T: Snapshot1>(
     nsubscriptions: u32,
 ) -> Result<u32, Error>
     requires { length kept.now ≤ 4294967295 }
-    ensures { Calls (T.answers (Call.PollOneoff subs events nsubscriptions)) subs kept.now object.old memory.old result object.new memory.new }
+    ensures { Calls (T.answers (Call.PollOneoff subs events nsubscriptions)) subs kept.now (record { object = object.old; memory = memory.old }) (record { answer = result; object = object.new; memory = memory.new }) }
 {
     match object.poll_oneoff(memory, subs, events, nsubscriptions) {
         Ok(count) => match restore(memory, subs, kept) {
             Ok(()) => Ok(count),
             Err(errno) => Err(Error::Normal(errno)),
         },
-        Err(refusal) => Err(error_of(refusal)),
+        Err(refusal) => Err(refusal),
     }
 }
 
@@ -118,7 +117,7 @@ pub(crate) fn poll_oneoff<T: Snapshot1>(
     events: u32,
     nsubscriptions: u32,
 ) -> Result<u32, Error>
-    ensures { PollsOneoff T.fuel_consumed (T.answers (Call.PollOneoff subs events nsubscriptions)) subs nsubscriptions object.old memory.old result object.new memory.new }
+    ensures { PollsOneoff T.fuel_consumed (T.answers (Call.PollOneoff subs events nsubscriptions)) (record { place = subs; count = nsubscriptions }) (record { object = object.old; memory = memory.old }) (record { answer = result; object = object.new; memory = memory.new }) }
 {
     match object.consume_fuel(48 * u64::from(nsubscriptions)) {
         Ok(()) => match keep(alloc, memory, subs, nsubscriptions) {
@@ -132,6 +131,6 @@ pub(crate) fn poll_oneoff<T: Snapshot1>(
             ),
             Err(error) => Err(error),
         },
-        Err(error) => Err(error_of(error)),
+        Err(error) => Err(error),
     }
 }

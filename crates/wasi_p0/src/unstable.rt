@@ -1,16 +1,11 @@
 ghost use Rattle.std.specs.Prelude.{◌≡◌, Err, OnOk};
 ghost use Rattle.wasi_base.specs.declared.trappable.TrappableError.TheVariants.{Trap};
 ghost use Rattle.wasi_base.specs.declared.trap_text.TrapText.TheVariants.{SockRecvUnsupported, SockSendUnsupported, SockShutdownUnsupported};
-ghost use Rattle.wasi_p0.specs.Converted.{IsConverted, same};
+ghost use Rattle.wasi_p0.specs.Converted.{IsConverted};
 ghost use Rattle.wasi_p0.specs.Poll.{PollsOneoff, ReadsAsBefore};
 ghost use Rattle.wasi_p1.specs.declared.call.Call.{Call};
-ghost use Rattle.wasi_p1_types.specs.Advice.{p1_advice};
-ghost use Rattle.wasi_p1_types.specs.Clockid.{p1_clockid};
-ghost use Rattle.wasi_p1_types.specs.Records.{p0_fdstat, p0_filestat, p0_prestat, p1_fdflags, p1_fstflags, p1_lookupflags, p1_oflags, p1_rights};
-ghost use Rattle.wasi_p1_types.specs.Signal.{p1_signal};
-ghost use Rattle.wasi_p1_types.specs.Whence.{p1_whence};
+ghost use Rattle.wasi_p1_types.specs.Records.{p0_fdstat, p0_filestat, p1_fdflags, p1_fstflags, p1_lookupflags, p1_oflags, p1_rights};
 
-use crate::error::error_of;
 use crate::poll;
 use std::alloc::Global;
 use wasi_base::TrapText;
@@ -23,7 +18,7 @@ use wasi_p1::{GuestMemory, Snapshot1};
 /// The calls of preview 0, `wasi_unstable`, over an object that has those of preview 1.
 ///
 /// Each call converts its arguments, makes the one call of preview 1 under its name, and converts
-/// the answer or the error.
+/// the answer. What both previews have alike, as an error, passes as it is.
 #[derive(Drop)]
 pub struct Unstable<'a, T>(pub &'a mut T);
 
@@ -42,16 +37,16 @@ impl<T: Snapshot1> Unstable<'_, T> {
         argv: u32,
         argv_buf: u32,
     ) -> Result<(), Error>
-        ensures { IsConverted same (λ answer. T.answers (Call.ArgsGet argv argv_buf) self.old.0.now memory.old answer self.new.0.now memory.new) result }
+        ensures { T.answers (Call.ArgsGet argv argv_buf) self.old.0.now memory.old result self.new.0.now memory.new }
     {
-        self.0.args_get(memory, argv, argv_buf).map_err(error_of)
+        self.0.args_get(memory, argv, argv_buf)
     }
 
     /// How many arguments there are, and how many bytes they take.
     pub fn args_sizes_get(&mut self, memory: &mut GuestMemory) -> Result<(u32, u32), Error>
-        ensures { IsConverted same (λ answer. T.answers Call.ArgsSizesGet self.old.0.now memory.old answer self.new.0.now memory.new) result }
+        ensures { T.answers Call.ArgsSizesGet self.old.0.now memory.old result self.new.0.now memory.new }
     {
-        self.0.args_sizes_get(memory).map_err(error_of)
+        self.0.args_sizes_get(memory)
     }
 
     /// Writes the environment and the places where its entries stand.
@@ -61,25 +56,23 @@ impl<T: Snapshot1> Unstable<'_, T> {
         environ: u32,
         environ_buf: u32,
     ) -> Result<(), Error>
-        ensures { IsConverted same (λ answer. T.answers (Call.EnvironGet environ environ_buf) self.old.0.now memory.old answer self.new.0.now memory.new) result }
+        ensures { T.answers (Call.EnvironGet environ environ_buf) self.old.0.now memory.old result self.new.0.now memory.new }
     {
-        self.0
-            .environ_get(memory, environ, environ_buf)
-            .map_err(error_of)
+        self.0.environ_get(memory, environ, environ_buf)
     }
 
     /// How many entries the environment has, and how many bytes they take.
     pub fn environ_sizes_get(&mut self, memory: &mut GuestMemory) -> Result<(u32, u32), Error>
-        ensures { IsConverted same (λ answer. T.answers Call.EnvironSizesGet self.old.0.now memory.old answer self.new.0.now memory.new) result }
+        ensures { T.answers Call.EnvironSizesGet self.old.0.now memory.old result self.new.0.now memory.new }
     {
-        self.0.environ_sizes_get(memory).map_err(error_of)
+        self.0.environ_sizes_get(memory)
     }
 
     /// A clock's resolution in nanoseconds.
     pub fn clock_res_get(&mut self, memory: &mut GuestMemory, id: Clockid) -> Result<u64, Error>
-        ensures { IsConverted same (λ answer. T.answers (Call.ClockResGet (p1_clockid id)) self.old.0.now memory.old answer self.new.0.now memory.new) result }
+        ensures { T.answers (Call.ClockResGet id) self.old.0.now memory.old result self.new.0.now memory.new }
     {
-        self.0.clock_res_get(memory, id.into()).map_err(error_of)
+        self.0.clock_res_get(memory, id)
     }
 
     /// A clock's time in nanoseconds.
@@ -89,11 +82,9 @@ impl<T: Snapshot1> Unstable<'_, T> {
         id: Clockid,
         precision: u64,
     ) -> Result<u64, Error>
-        ensures { IsConverted same (λ answer. T.answers (Call.ClockTimeGet (p1_clockid id) precision) self.old.0.now memory.old answer self.new.0.now memory.new) result }
+        ensures { T.answers (Call.ClockTimeGet id precision) self.old.0.now memory.old result self.new.0.now memory.new }
     {
-        self.0
-            .clock_time_get(memory, id.into(), precision)
-            .map_err(error_of)
+        self.0.clock_time_get(memory, id, precision)
     }
 
     /// Says how a part of a file will be used.
@@ -105,11 +96,9 @@ impl<T: Snapshot1> Unstable<'_, T> {
         len: u64,
         advice: Advice,
     ) -> Result<(), Error>
-        ensures { IsConverted same (λ answer. T.answers (Call.FdAdvise fd offset len (p1_advice advice)) self.old.0.now memory.old answer self.new.0.now memory.new) result }
+        ensures { T.answers (Call.FdAdvise fd offset len advice) self.old.0.now memory.old result self.new.0.now memory.new }
     {
-        self.0
-            .fd_advise(memory, fd, offset, len, advice.into())
-            .map_err(error_of)
+        self.0.fd_advise(memory, fd, offset, len, advice)
     }
 
     /// Makes room for a part of a file.
@@ -120,35 +109,30 @@ impl<T: Snapshot1> Unstable<'_, T> {
         offset: u64,
         len: u64,
     ) -> Result<(), Error>
-        ensures { IsConverted same (λ answer. T.answers (Call.FdAllocate fd offset len) self.old.0.now memory.old answer self.new.0.now memory.new) result }
+        ensures { T.answers (Call.FdAllocate fd offset len) self.old.0.now memory.old result self.new.0.now memory.new }
     {
-        self.0
-            .fd_allocate(memory, fd, offset, len)
-            .map_err(error_of)
+        self.0.fd_allocate(memory, fd, offset, len)
     }
 
     /// Closes a descriptor.
     pub fn fd_close(&mut self, memory: &mut GuestMemory, fd: Fd) -> Result<(), Error>
-        ensures { IsConverted same (λ answer. T.answers (Call.FdClose fd) self.old.0.now memory.old answer self.new.0.now memory.new) result }
+        ensures { T.answers (Call.FdClose fd) self.old.0.now memory.old result self.new.0.now memory.new }
     {
-        self.0.fd_close(memory, fd).map_err(error_of)
+        self.0.fd_close(memory, fd)
     }
 
     /// Brings a file's data to its device.
     pub fn fd_datasync(&mut self, memory: &mut GuestMemory, fd: Fd) -> Result<(), Error>
-        ensures { IsConverted same (λ answer. T.answers (Call.FdDatasync fd) self.old.0.now memory.old answer self.new.0.now memory.new) result }
+        ensures { T.answers (Call.FdDatasync fd) self.old.0.now memory.old result self.new.0.now memory.new }
     {
-        self.0.fd_datasync(memory, fd).map_err(error_of)
+        self.0.fd_datasync(memory, fd)
     }
 
     /// What a descriptor names and allows.
     pub fn fd_fdstat_get(&mut self, memory: &mut GuestMemory, fd: Fd) -> Result<Fdstat, Error>
         ensures { IsConverted p0_fdstat (λ answer. T.answers (Call.FdFdstatGet fd) self.old.0.now memory.old answer self.new.0.now memory.new) result }
     {
-        self.0
-            .fd_fdstat_get(memory, fd)
-            .map(Fdstat::from)
-            .map_err(error_of)
+        self.0.fd_fdstat_get(memory, fd).map(Fdstat::from)
     }
 
     /// Sets a descriptor's flags.
@@ -158,11 +142,9 @@ impl<T: Snapshot1> Unstable<'_, T> {
         fd: Fd,
         flags: Fdflags,
     ) -> Result<(), Error>
-        ensures { IsConverted same (λ answer. T.answers (Call.FdFdstatSetFlags fd (p1_fdflags flags)) self.old.0.now memory.old answer self.new.0.now memory.new) result }
+        ensures { T.answers (Call.FdFdstatSetFlags fd (p1_fdflags flags)) self.old.0.now memory.old result self.new.0.now memory.new }
     {
-        self.0
-            .fd_fdstat_set_flags(memory, fd, flags.into())
-            .map_err(error_of)
+        self.0.fd_fdstat_set_flags(memory, fd, flags.into())
     }
 
     /// Sets what a descriptor allows.
@@ -173,26 +155,21 @@ impl<T: Snapshot1> Unstable<'_, T> {
         fs_rights_base: Rights,
         fs_rights_inheriting: Rights,
     ) -> Result<(), Error>
-        ensures { IsConverted same (λ answer. T.answers (Call.FdFdstatSetRights fd (p1_rights fs_rights_base) (p1_rights fs_rights_inheriting)) self.old.0.now memory.old answer self.new.0.now memory.new) result }
+        ensures { T.answers (Call.FdFdstatSetRights fd (p1_rights fs_rights_base) (p1_rights fs_rights_inheriting)) self.old.0.now memory.old result self.new.0.now memory.new }
     {
-        self.0
-            .fd_fdstat_set_rights(
-                memory,
-                fd,
-                fs_rights_base.into(),
-                fs_rights_inheriting.into(),
-            )
-            .map_err(error_of)
+        self.0.fd_fdstat_set_rights(
+            memory,
+            fd,
+            fs_rights_base.into(),
+            fs_rights_inheriting.into(),
+        )
     }
 
     /// What is known of a file.
     pub fn fd_filestat_get(&mut self, memory: &mut GuestMemory, fd: Fd) -> Result<Filestat, Error>
         ensures { IsConverted p0_filestat (λ answer. T.answers (Call.FdFilestatGet fd) self.old.0.now memory.old answer self.new.0.now memory.new) result }
     {
-        self.0
-            .fd_filestat_get(memory, fd)
-            .map(Filestat::from)
-            .map_err(error_of)
+        self.0.fd_filestat_get(memory, fd).map(Filestat::from)
     }
 
     /// Cuts a file, or fills it with zeros, to a length.
@@ -202,11 +179,9 @@ impl<T: Snapshot1> Unstable<'_, T> {
         fd: Fd,
         size: u64,
     ) -> Result<(), Error>
-        ensures { IsConverted same (λ answer. T.answers (Call.FdFilestatSetSize fd size) self.old.0.now memory.old answer self.new.0.now memory.new) result }
+        ensures { T.answers (Call.FdFilestatSetSize fd size) self.old.0.now memory.old result self.new.0.now memory.new }
     {
-        self.0
-            .fd_filestat_set_size(memory, fd, size)
-            .map_err(error_of)
+        self.0.fd_filestat_set_size(memory, fd, size)
     }
 
     /// Sets a file's times.
@@ -218,11 +193,10 @@ impl<T: Snapshot1> Unstable<'_, T> {
         mtim: u64,
         fst_flags: Fstflags,
     ) -> Result<(), Error>
-        ensures { IsConverted same (λ answer. T.answers (Call.FdFilestatSetTimes fd atim mtim (p1_fstflags fst_flags)) self.old.0.now memory.old answer self.new.0.now memory.new) result }
+        ensures { T.answers (Call.FdFilestatSetTimes fd atim mtim (p1_fstflags fst_flags)) self.old.0.now memory.old result self.new.0.now memory.new }
     {
         self.0
             .fd_filestat_set_times(memory, fd, atim, mtim, fst_flags.into())
-            .map_err(error_of)
     }
 
     /// Reads into the buffers of a list: how many bytes were read.
@@ -232,9 +206,9 @@ impl<T: Snapshot1> Unstable<'_, T> {
         fd: Fd,
         iovs: (u32, u32),
     ) -> Result<u32, Error>
-        ensures { IsConverted same (λ answer. T.answers (Call.FdRead fd iovs) self.old.0.now memory.old answer self.new.0.now memory.new) result }
+        ensures { T.answers (Call.FdRead fd iovs) self.old.0.now memory.old result self.new.0.now memory.new }
     {
-        self.0.fd_read(memory, fd, iovs).map_err(error_of)
+        self.0.fd_read(memory, fd, iovs)
     }
 
     /// Reads from an offset: how many bytes were read.
@@ -245,9 +219,9 @@ impl<T: Snapshot1> Unstable<'_, T> {
         iovs: (u32, u32),
         offset: u64,
     ) -> Result<u32, Error>
-        ensures { IsConverted same (λ answer. T.answers (Call.FdPread fd iovs offset) self.old.0.now memory.old answer self.new.0.now memory.new) result }
+        ensures { T.answers (Call.FdPread fd iovs offset) self.old.0.now memory.old result self.new.0.now memory.new }
     {
-        self.0.fd_pread(memory, fd, iovs, offset).map_err(error_of)
+        self.0.fd_pread(memory, fd, iovs, offset)
     }
 
     /// Writes the buffers of a list: how many bytes were written.
@@ -257,9 +231,9 @@ impl<T: Snapshot1> Unstable<'_, T> {
         fd: Fd,
         iovs: (u32, u32),
     ) -> Result<u32, Error>
-        ensures { IsConverted same (λ answer. T.answers (Call.FdWrite fd iovs) self.old.0.now memory.old answer self.new.0.now memory.new) result }
+        ensures { T.answers (Call.FdWrite fd iovs) self.old.0.now memory.old result self.new.0.now memory.new }
     {
-        self.0.fd_write(memory, fd, iovs).map_err(error_of)
+        self.0.fd_write(memory, fd, iovs)
     }
 
     /// Writes at an offset: how many bytes were written.
@@ -270,19 +244,16 @@ impl<T: Snapshot1> Unstable<'_, T> {
         iovs: (u32, u32),
         offset: u64,
     ) -> Result<u32, Error>
-        ensures { IsConverted same (λ answer. T.answers (Call.FdPwrite fd iovs offset) self.old.0.now memory.old answer self.new.0.now memory.new) result }
+        ensures { T.answers (Call.FdPwrite fd iovs offset) self.old.0.now memory.old result self.new.0.now memory.new }
     {
-        self.0.fd_pwrite(memory, fd, iovs, offset).map_err(error_of)
+        self.0.fd_pwrite(memory, fd, iovs, offset)
     }
 
     /// What the guest was given under a descriptor.
     pub fn fd_prestat_get(&mut self, memory: &mut GuestMemory, fd: Fd) -> Result<Prestat, Error>
-        ensures { IsConverted p0_prestat (λ answer. T.answers (Call.FdPrestatGet fd) self.old.0.now memory.old answer self.new.0.now memory.new) result }
+        ensures { T.answers (Call.FdPrestatGet fd) self.old.0.now memory.old result self.new.0.now memory.new }
     {
-        self.0
-            .fd_prestat_get(memory, fd)
-            .map(Prestat::from)
-            .map_err(error_of)
+        self.0.fd_prestat_get(memory, fd)
     }
 
     /// Writes the name of a directory that the guest was given.
@@ -293,18 +264,16 @@ impl<T: Snapshot1> Unstable<'_, T> {
         path: u32,
         path_max_len: u32,
     ) -> Result<(), Error>
-        ensures { IsConverted same (λ answer. T.answers (Call.FdPrestatDirName fd path path_max_len) self.old.0.now memory.old answer self.new.0.now memory.new) result }
+        ensures { T.answers (Call.FdPrestatDirName fd path path_max_len) self.old.0.now memory.old result self.new.0.now memory.new }
     {
-        self.0
-            .fd_prestat_dir_name(memory, fd, path, path_max_len)
-            .map_err(error_of)
+        self.0.fd_prestat_dir_name(memory, fd, path, path_max_len)
     }
 
     /// Moves a descriptor to another number.
     pub fn fd_renumber(&mut self, memory: &mut GuestMemory, from: Fd, to: Fd) -> Result<(), Error>
-        ensures { IsConverted same (λ answer. T.answers (Call.FdRenumber from to) self.old.0.now memory.old answer self.new.0.now memory.new) result }
+        ensures { T.answers (Call.FdRenumber from to) self.old.0.now memory.old result self.new.0.now memory.new }
     {
-        self.0.fd_renumber(memory, from, to).map_err(error_of)
+        self.0.fd_renumber(memory, from, to)
     }
 
     /// Moves a descriptor's offset: the new one.
@@ -315,25 +284,23 @@ impl<T: Snapshot1> Unstable<'_, T> {
         offset: i64,
         whence: Whence,
     ) -> Result<u64, Error>
-        ensures { IsConverted same (λ answer. T.answers (Call.FdSeek fd offset (p1_whence whence)) self.old.0.now memory.old answer self.new.0.now memory.new) result }
+        ensures { T.answers (Call.FdSeek fd offset whence) self.old.0.now memory.old result self.new.0.now memory.new }
     {
-        self.0
-            .fd_seek(memory, fd, offset, whence.into())
-            .map_err(error_of)
+        self.0.fd_seek(memory, fd, offset, whence)
     }
 
     /// Brings a file's data and what is known of it to its device.
     pub fn fd_sync(&mut self, memory: &mut GuestMemory, fd: Fd) -> Result<(), Error>
-        ensures { IsConverted same (λ answer. T.answers (Call.FdSync fd) self.old.0.now memory.old answer self.new.0.now memory.new) result }
+        ensures { T.answers (Call.FdSync fd) self.old.0.now memory.old result self.new.0.now memory.new }
     {
-        self.0.fd_sync(memory, fd).map_err(error_of)
+        self.0.fd_sync(memory, fd)
     }
 
     /// A descriptor's offset.
     pub fn fd_tell(&mut self, memory: &mut GuestMemory, fd: Fd) -> Result<u64, Error>
-        ensures { IsConverted same (λ answer. T.answers (Call.FdTell fd) self.old.0.now memory.old answer self.new.0.now memory.new) result }
+        ensures { T.answers (Call.FdTell fd) self.old.0.now memory.old result self.new.0.now memory.new }
     {
-        self.0.fd_tell(memory, fd).map_err(error_of)
+        self.0.fd_tell(memory, fd)
     }
 
     /// Writes entries of a directory: how many bytes were written.
@@ -345,11 +312,9 @@ impl<T: Snapshot1> Unstable<'_, T> {
         buf_len: u32,
         cookie: u64,
     ) -> Result<u32, Error>
-        ensures { IsConverted same (λ answer. T.answers (Call.FdReaddir fd buf buf_len cookie) self.old.0.now memory.old answer self.new.0.now memory.new) result }
+        ensures { T.answers (Call.FdReaddir fd buf buf_len cookie) self.old.0.now memory.old result self.new.0.now memory.new }
     {
-        self.0
-            .fd_readdir(memory, fd, buf, buf_len, cookie)
-            .map_err(error_of)
+        self.0.fd_readdir(memory, fd, buf, buf_len, cookie)
     }
 
     /// Makes a directory.
@@ -359,11 +324,9 @@ impl<T: Snapshot1> Unstable<'_, T> {
         fd: Fd,
         path: (u32, u32),
     ) -> Result<(), Error>
-        ensures { IsConverted same (λ answer. T.answers (Call.PathCreateDirectory fd path) self.old.0.now memory.old answer self.new.0.now memory.new) result }
+        ensures { T.answers (Call.PathCreateDirectory fd path) self.old.0.now memory.old result self.new.0.now memory.new }
     {
-        self.0
-            .path_create_directory(memory, fd, path)
-            .map_err(error_of)
+        self.0.path_create_directory(memory, fd, path)
     }
 
     /// What is known of what a path names.
@@ -379,7 +342,6 @@ impl<T: Snapshot1> Unstable<'_, T> {
         self.0
             .path_filestat_get(memory, fd, flags.into(), path)
             .map(Filestat::from)
-            .map_err(error_of)
     }
 
     /// Sets the times of what a path names.
@@ -393,11 +355,9 @@ impl<T: Snapshot1> Unstable<'_, T> {
         mtim: u64,
         fst_flags: Fstflags,
     ) -> Result<(), Error>
-        ensures { IsConverted same (λ answer. T.answers (Call.PathFilestatSetTimes fd (p1_lookupflags flags) path atim mtim (p1_fstflags fst_flags)) self.old.0.now memory.old answer self.new.0.now memory.new) result }
+        ensures { T.answers (Call.PathFilestatSetTimes fd (p1_lookupflags flags) path atim mtim (p1_fstflags fst_flags)) self.old.0.now memory.old result self.new.0.now memory.new }
     {
-        self.0
-            .path_filestat_set_times(memory, fd, flags.into(), path, atim, mtim, fst_flags.into())
-            .map_err(error_of)
+        self.0.path_filestat_set_times(memory, fd, flags.into(), path, atim, mtim, fst_flags.into())
     }
 
     /// Gives a file one more name.
@@ -410,11 +370,10 @@ impl<T: Snapshot1> Unstable<'_, T> {
         new_fd: Fd,
         new_path: (u32, u32),
     ) -> Result<(), Error>
-        ensures { IsConverted same (λ answer. T.answers (Call.PathLink fd (p1_lookupflags flags) path new_fd new_path) self.old.0.now memory.old answer self.new.0.now memory.new) result }
+        ensures { T.answers (Call.PathLink fd (p1_lookupflags flags) path new_fd new_path) self.old.0.now memory.old result self.new.0.now memory.new }
     {
         self.0
             .path_link(memory, fd, flags.into(), path, new_fd, new_path)
-            .map_err(error_of)
     }
 
     /// Opens what a path names: the new descriptor.
@@ -429,20 +388,18 @@ impl<T: Snapshot1> Unstable<'_, T> {
         fs_rights_inheriting: Rights,
         fdflags: Fdflags,
     ) -> Result<Fd, Error>
-        ensures { IsConverted same (λ answer. T.answers (Call.PathOpen fd (p1_lookupflags dirflags) path (p1_oflags oflags) (p1_rights fs_rights_base) (p1_rights fs_rights_inheriting) (p1_fdflags fdflags)) self.old.0.now memory.old answer self.new.0.now memory.new) result }
+        ensures { T.answers (Call.PathOpen fd (p1_lookupflags dirflags) path (p1_oflags oflags) (p1_rights fs_rights_base) (p1_rights fs_rights_inheriting) (p1_fdflags fdflags)) self.old.0.now memory.old result self.new.0.now memory.new }
     {
-        self.0
-            .path_open(
-                memory,
-                fd,
-                dirflags.into(),
-                path,
-                oflags.into(),
-                fs_rights_base.into(),
-                fs_rights_inheriting.into(),
-                fdflags.into(),
-            )
-            .map_err(error_of)
+        self.0.path_open(
+            memory,
+            fd,
+            dirflags.into(),
+            path,
+            oflags.into(),
+            fs_rights_base.into(),
+            fs_rights_inheriting.into(),
+            fdflags.into(),
+        )
     }
 
     /// Writes a link's text: how many bytes were written.
@@ -454,11 +411,9 @@ impl<T: Snapshot1> Unstable<'_, T> {
         buf: u32,
         buf_len: u32,
     ) -> Result<u32, Error>
-        ensures { IsConverted same (λ answer. T.answers (Call.PathReadlink fd path buf buf_len) self.old.0.now memory.old answer self.new.0.now memory.new) result }
+        ensures { T.answers (Call.PathReadlink fd path buf buf_len) self.old.0.now memory.old result self.new.0.now memory.new }
     {
-        self.0
-            .path_readlink(memory, fd, path, buf, buf_len)
-            .map_err(error_of)
+        self.0.path_readlink(memory, fd, path, buf, buf_len)
     }
 
     /// Removes a directory.
@@ -468,11 +423,9 @@ impl<T: Snapshot1> Unstable<'_, T> {
         fd: Fd,
         path: (u32, u32),
     ) -> Result<(), Error>
-        ensures { IsConverted same (λ answer. T.answers (Call.PathRemoveDirectory fd path) self.old.0.now memory.old answer self.new.0.now memory.new) result }
+        ensures { T.answers (Call.PathRemoveDirectory fd path) self.old.0.now memory.old result self.new.0.now memory.new }
     {
-        self.0
-            .path_remove_directory(memory, fd, path)
-            .map_err(error_of)
+        self.0.path_remove_directory(memory, fd, path)
     }
 
     /// Gives a name to what another name named.
@@ -484,11 +437,9 @@ impl<T: Snapshot1> Unstable<'_, T> {
         new_fd: Fd,
         new_path: (u32, u32),
     ) -> Result<(), Error>
-        ensures { IsConverted same (λ answer. T.answers (Call.PathRename fd path new_fd new_path) self.old.0.now memory.old answer self.new.0.now memory.new) result }
+        ensures { T.answers (Call.PathRename fd path new_fd new_path) self.old.0.now memory.old result self.new.0.now memory.new }
     {
-        self.0
-            .path_rename(memory, fd, path, new_fd, new_path)
-            .map_err(error_of)
+        self.0.path_rename(memory, fd, path, new_fd, new_path)
     }
 
     /// Makes a link.
@@ -499,11 +450,9 @@ impl<T: Snapshot1> Unstable<'_, T> {
         fd: Fd,
         new_path: (u32, u32),
     ) -> Result<(), Error>
-        ensures { IsConverted same (λ answer. T.answers (Call.PathSymlink old_path fd new_path) self.old.0.now memory.old answer self.new.0.now memory.new) result }
+        ensures { T.answers (Call.PathSymlink old_path fd new_path) self.old.0.now memory.old result self.new.0.now memory.new }
     {
-        self.0
-            .path_symlink(memory, old_path, fd, new_path)
-            .map_err(error_of)
+        self.0.path_symlink(memory, old_path, fd, new_path)
     }
 
     /// Removes a file's name.
@@ -513,9 +462,9 @@ impl<T: Snapshot1> Unstable<'_, T> {
         fd: Fd,
         path: (u32, u32),
     ) -> Result<(), Error>
-        ensures { IsConverted same (λ answer. T.answers (Call.PathUnlinkFile fd path) self.old.0.now memory.old answer self.new.0.now memory.new) result }
+        ensures { T.answers (Call.PathUnlinkFile fd path) self.old.0.now memory.old result self.new.0.now memory.new }
     {
-        self.0.path_unlink_file(memory, fd, path).map_err(error_of)
+        self.0.path_unlink_file(memory, fd, path)
     }
 
     /// Waits for one of the waits that stand in the `nsubscriptions` slots from `subs` on, and
@@ -534,8 +483,8 @@ impl<T: Snapshot1> Unstable<'_, T> {
         events: u32,
         nsubscriptions: u32,
     ) -> Result<u32, Error>
-        ensures polls { PollsOneoff T.fuel_consumed (T.answers (Call.PollOneoff subs events nsubscriptions)) subs nsubscriptions self.old.0.now memory.old result self.new.0.now memory.new }
-        ensures restored { OnOk result (ReadsAsBefore subs nsubscriptions memory.old memory.new) }
+        ensures polls { PollsOneoff T.fuel_consumed (T.answers (Call.PollOneoff subs events nsubscriptions)) (record { place = subs; count = nsubscriptions }) (record { object = self.old.0.now; memory = memory.old }) (record { answer = result; object = self.new.0.now; memory = memory.new }) }
+        ensures restored { OnOk result (ReadsAsBefore (record { place = subs; count = nsubscriptions }) memory.old memory.new) }
     {
         poll::are_bytes(memory.bytes());
         poll::poll_oneoff(self.0, alloc, memory, subs, events, nsubscriptions)
@@ -543,23 +492,23 @@ impl<T: Snapshot1> Unstable<'_, T> {
 
     /// Ends the guest: why it is trapped.
     pub fn proc_exit(&mut self, memory: &mut GuestMemory, status: u32) -> Result<TrapText, Error>
-        ensures { IsConverted same (λ answer. T.answers (Call.ProcExit status) self.old.0.now memory.old answer self.new.0.now memory.new) result }
+        ensures { T.answers (Call.ProcExit status) self.old.0.now memory.old result self.new.0.now memory.new }
     {
-        self.0.proc_exit(memory, status).map_err(error_of)
+        self.0.proc_exit(memory, status)
     }
 
     /// Sends the guest a signal.
     pub fn proc_raise(&mut self, memory: &mut GuestMemory, signal: Signal) -> Result<(), Error>
-        ensures { IsConverted same (λ answer. T.answers (Call.ProcRaise (p1_signal signal)) self.old.0.now memory.old answer self.new.0.now memory.new) result }
+        ensures { T.answers (Call.ProcRaise signal) self.old.0.now memory.old result self.new.0.now memory.new }
     {
-        self.0.proc_raise(memory, signal.into()).map_err(error_of)
+        self.0.proc_raise(memory, signal)
     }
 
     /// Lets others run.
     pub fn sched_yield(&mut self, memory: &mut GuestMemory) -> Result<(), Error>
-        ensures { IsConverted same (λ answer. T.answers Call.SchedYield self.old.0.now memory.old answer self.new.0.now memory.new) result }
+        ensures { T.answers Call.SchedYield self.old.0.now memory.old result self.new.0.now memory.new }
     {
-        self.0.sched_yield(memory).map_err(error_of)
+        self.0.sched_yield(memory)
     }
 
     /// Writes random bytes.
@@ -569,9 +518,9 @@ impl<T: Snapshot1> Unstable<'_, T> {
         buf: u32,
         buf_len: u32,
     ) -> Result<(), Error>
-        ensures { IsConverted same (λ answer. T.answers (Call.RandomGet buf buf_len) self.old.0.now memory.old answer self.new.0.now memory.new) result }
+        ensures { T.answers (Call.RandomGet buf buf_len) self.old.0.now memory.old result self.new.0.now memory.new }
     {
-        self.0.random_get(memory, buf, buf_len).map_err(error_of)
+        self.0.random_get(memory, buf, buf_len)
     }
 
     /// Traps, and calls nothing.

@@ -5,7 +5,7 @@ use Rattle.wasi_p1.specs.declared.call.Call.{Call}
 use Rattle.wasi_p1.specs.declared.call.Call.TheVariants.{ArgsGet, ArgsSizesGet, EnvironGet, EnvironSizesGet, ClockResGet, ClockTimeGet, FdAdvise, FdAllocate, FdClose, FdDatasync, FdFdstatGet, FdFdstatSetFlags, FdFdstatSetRights, FdFilestatGet, FdFilestatSetSize, FdFilestatSetTimes, FdRead, FdPread, FdWrite, FdPwrite, FdPrestatGet, FdPrestatDirName, FdRenumber, FdSeek, FdSync, FdTell, FdReaddir, PathCreateDirectory, PathFilestatGet, PathFilestatSetTimes, PathLink, PathOpen, PathReadlink, PathRemoveDirectory, PathRename, PathSymlink, PathUnlinkFile, PollOneoff, ProcExit, ProcRaise, SchedYield, RandomGet}
 use Rattle.wasi_p1_types.specs.declared.p1.Fdstat.{Fdstat}
 use Rattle.wasi_p1_types.specs.declared.p1.Filestat.{Filestat}
-use Rattle.wasi_p1_types.specs.declared.p1.Prestat.{Prestat}
+use Rattle.wasi_p1_types.specs.declared.both.Prestat.{Prestat}
 
 -- the kinds of answer; a size and a descriptor have 32 bits, a number has 64
 pub data Kind : Type 0 where

@@ -6,6 +6,6 @@ abbrev pub fits : ℕ → List ℕ → List ℕ → Bool
 fits address bytes memory = nat_le (address + length bytes) (length memory)
 
 -- the memory with these bytes from an address on, where they fit
-abbrev pub written : ℕ → List ℕ → List ℕ → List ℕ
-written address bytes memory =
+abbrev pub with_bytes_at : ℕ → List ℕ → List ℕ → List ℕ
+with_bytes_at address bytes memory =
     if fits address bytes memory then take address memory ++ (bytes ++ drop (address + length bytes) memory) else memory

@@ -1,16 +1,15 @@
 -- What a snapshot made of replies answers, and what it records.
 use Rattle.std.specs.Prelude.{ℕ, ◌≡◌, nat_le, List, [], ◌∷◌, ◌++◌, drop, Result, Ok, Err, if◌then◌else◌, ◌⊎◌}
-use Rattle.wasi_base.specs.declared.trap_text.TrapText.{TrapText}
 use Rattle.wasi_base.specs.declared.trappable.TrappableError.{TrappableError}
 use Rattle.wasi_base.specs.declared.trappable.TrappableError.TheVariants as error
 use Rattle.wasi_p1.specs.Answer.{Kind, Nothing, TwoSizes, Size, Number, OfDescriptor, OfFile, OfGiven, Reason, Value, Answer, kind_of}
-use Rattle.wasi_p1.specs.Memory.{fits, written}
+use Rattle.wasi_p1.specs.Memory.{fits, with_bytes_at}
 use Rattle.wasi_p1.specs.declared.call.Call.{Call}
 use Rattle.wasi_p1.specs.declared.call.Call.TheVariants.{PollOneoff}
 use Rattle.wasi_p1.specs.declared.reply.Reply.{Reply}
 use Rattle.wasi_p1.specs.declared.reply.Reply.TheVariants as reply
-use Rattle.wasi_p1_types.specs.declared.p1.Errno.{Errno}
-use Rattle.wasi_p1_types.specs.declared.p1.Errno.TheVariants.{Nosys, Fault}
+use Rattle.wasi_p1_types.specs.declared.errno.Errno.{Errno}
+use Rattle.wasi_p1_types.specs.declared.errno.Errno.TheVariants.{Nosys, Fault}
 
 -- the replies that are left, and the calls so far
 pub record Recorder : Type 0 where
@@ -52,7 +51,7 @@ answer_to call other memory = answer_of (kind_of call) other
 -- and what it leaves in the guest's memory
 abbrev pub memory_after : Call → Reply → List ℕ → List ℕ
 memory_after (PollOneoff subs events nsubscriptions) (reply.Events bytes count) memory =
-    written events bytes.items memory
+    with_bytes_at events bytes.items memory
 memory_after call other memory = memory
 
 -- a call is recorded and answered by the next reply, unless there is no memory to record it

@@ -1,6 +1,6 @@
 ghost use Rattle.std.specs.Prelude.{◌≡◌, ◌≤◌, ◌++◌, take, drop, length, Ok, Err, if◌then◌else◌};
 ghost use Rattle.std.specs.Borrow.{sem, Lends, Array, u8 as byte};
-ghost use Rattle.wasi_p1.specs.Memory.{fits, written};
+ghost use Rattle.wasi_p1.specs.Memory.{fits, with_bytes_at};
 ghost use Rattle.wasi_p1.specs.contracts.memory.GuestMemory as guest;
 
 use std::marker::Model;
@@ -45,7 +45,7 @@ impl GuestMemory {
     /// Writes bytes from an address on: `Fault`, with nothing written, where they don't fit.
     pub(crate) fn write(&mut self, address: u32, bytes: &[u8]) -> Result<(), Errno>
         ensures answer { result ≡ (if fits address bytes.now self.old then Ok tt else Err Errno.Fault) }
-        ensures memory { self.new ≡ written address bytes.now self.old }
+        ensures memory { self.new ≡ with_bytes_at address bytes.now self.old }
     {
         let start = address as usize;
         let all = self.bytes.as_mut_slice();

@@ -2,7 +2,7 @@ ghost use Rattle.std.specs.Prelude.{ℕ, List, Result};
 ghost use Rattle.wasi_base.specs.declared.trappable.TrappableError.{TrappableError};
 ghost use Rattle.wasi_p1.specs.Answer.{Answer};
 ghost use Rattle.wasi_p1.specs.declared.call.Call.{Call};
-ghost use Rattle.wasi_p1_types.specs.declared.p1.Errno.{Errno};
+ghost use Rattle.wasi_p1_types.specs.declared.errno.Errno.{Errno};
 
 use crate::GuestMemory;
 use wasi_base::TrapText;

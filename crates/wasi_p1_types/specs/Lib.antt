@@ -1,8 +1,3 @@
-pub mod Flags
 pub mod Errno
-pub mod Clockid
-pub mod Advice
-pub mod Whence
-pub mod Signal
-pub mod Filetype
+pub mod Flags
 pub mod Records

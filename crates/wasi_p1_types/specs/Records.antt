@@ -1,8 +1,7 @@
 -- Flags and records of one preview as those of the other: by name, and field by field.
-use Rattle.std.specs.Prelude.{ℕ, min}
-use Rattle.wasi_p1_types.specs.Flags.{named_bits, fdflags_table, rights_table, lookupflags_table, fstflags_table, oflags_table, subclockflags_table}
-use Rattle.wasi_p1_types.specs.Clockid.{p1_clockid}
-use Rattle.wasi_p1_types.specs.Filetype.{p0_filetype}
+use Rattle.std.specs.Prelude.{min}
+use Rattle.wasi_flags.specs.Flags.{named_bits}
+use Rattle.wasi_p1_types.specs.Flags.{fdflags_table, rights_table, lookupflags_table, fstflags_table, oflags_table, subclockflags_table}
 use Rattle.wasi_p1_types.specs.declared.p0.flags.Fdflags as fdflags0
 use Rattle.wasi_p1_types.specs.declared.p1.flags.Fdflags as fdflags1
 use Rattle.wasi_p1_types.specs.declared.p0.flags.Rights as rights0
@@ -15,24 +14,16 @@ use Rattle.wasi_p1_types.specs.declared.p0.flags.Oflags as oflags0
 use Rattle.wasi_p1_types.specs.declared.p1.flags.Oflags as oflags1
 use Rattle.wasi_p1_types.specs.declared.p0.flags.Subclockflags as subclockflags0
 use Rattle.wasi_p1_types.specs.declared.p1.flags.Subclockflags as subclockflags1
-use Rattle.wasi_p1_types.specs.declared.p0.PrestatDir as prestatdir0
-use Rattle.wasi_p1_types.specs.declared.p1.PrestatDir as prestatdir1
-use Rattle.wasi_p1_types.specs.declared.p0.Prestat as prestat0
-use Rattle.wasi_p1_types.specs.declared.p1.Prestat as prestat1
 use Rattle.wasi_p1_types.specs.declared.p0.Fdstat as fdstat0
 use Rattle.wasi_p1_types.specs.declared.p1.Fdstat as fdstat1
 use Rattle.wasi_p1_types.specs.declared.p0.Filestat as filestat0
 use Rattle.wasi_p1_types.specs.declared.p1.Filestat as filestat1
 use Rattle.wasi_p1_types.specs.declared.p0.SubscriptionClock as subscriptionclock0
 use Rattle.wasi_p1_types.specs.declared.p1.SubscriptionClock as subscriptionclock1
-use Rattle.wasi_p1_types.specs.declared.p0.SubscriptionFdReadwrite as subscriptionfdreadwrite0
-use Rattle.wasi_p1_types.specs.declared.p1.SubscriptionFdReadwrite as subscriptionfdreadwrite1
 use Rattle.wasi_p1_types.specs.declared.p0.SubscriptionU as subscriptionu0
 use Rattle.wasi_p1_types.specs.declared.p1.SubscriptionU as subscriptionu1
 use Rattle.wasi_p1_types.specs.declared.p0.Subscription as subscription0
 use Rattle.wasi_p1_types.specs.declared.p1.Subscription as subscription1
-use Rattle.wasi_p1_types.specs.declared.p0.Prestat.TheVariants as dir0
-use Rattle.wasi_p1_types.specs.declared.p1.Prestat.TheVariants as dir1
 use Rattle.wasi_p1_types.specs.declared.p0.SubscriptionU.TheVariants as wait0
 use Rattle.wasi_p1_types.specs.declared.p1.SubscriptionU.TheVariants as wait1
 
@@ -68,15 +59,9 @@ p1_oflags flags = record { 0 = named_bits oflags_table flags.0 }
 abbrev pub p1_subclockflags : subclockflags0.Subclockflags → subclockflags1.Subclockflags
 p1_subclockflags flags = record { 0 = named_bits subclockflags_table flags.0 }
 
-abbrev pub p0_prestat_dir : prestatdir1.PrestatDir → prestatdir0.PrestatDir
-p0_prestat_dir dir = record { pr_name_len = dir.pr_name_len }
-
-abbrev pub p0_prestat : prestat1.Prestat → prestat0.Prestat
-p0_prestat (dir1.Dir dir) = dir0.Dir (p0_prestat_dir dir)
-
 abbrev pub p0_fdstat : fdstat1.Fdstat → fdstat0.Fdstat
 p0_fdstat stat = record {
-  fs_filetype = p0_filetype stat.fs_filetype;
+  fs_filetype = stat.fs_filetype;
   fs_flags = p0_fdflags stat.fs_flags;
   fs_rights_base = p0_rights stat.fs_rights_base;
   fs_rights_inheriting = p0_rights stat.fs_rights_inheriting;
@@ -87,7 +72,7 @@ abbrev pub p0_filestat : filestat1.Filestat → filestat0.Filestat
 p0_filestat stat = record {
   dev = stat.dev;
   ino = stat.ino;
-  filetype = p0_filetype stat.filetype;
+  filetype = stat.filetype;
   nlink = min stat.nlink 4294967295;
   size = stat.size;
   atim = stat.atim;
@@ -97,19 +82,16 @@ p0_filestat stat = record {
 
 abbrev pub p1_subscription_clock : subscriptionclock0.SubscriptionClock → subscriptionclock1.SubscriptionClock
 p1_subscription_clock clock = record {
-  id = p1_clockid clock.id;
+  id = clock.id;
   timeout = clock.timeout;
   precision = clock.precision;
   flags = p1_subclockflags clock.flags;
 }
 
-abbrev pub p1_subscription_fd_readwrite : subscriptionfdreadwrite0.SubscriptionFdReadwrite → subscriptionfdreadwrite1.SubscriptionFdReadwrite
-p1_subscription_fd_readwrite wait = record { file_descriptor = wait.file_descriptor }
-
 abbrev pub p1_subscription_u : subscriptionu0.SubscriptionU → subscriptionu1.SubscriptionU
 p1_subscription_u (wait0.Clock clock) = wait1.Clock (p1_subscription_clock clock)
-p1_subscription_u (wait0.FdRead wait) = wait1.FdRead (p1_subscription_fd_readwrite wait)
-p1_subscription_u (wait0.FdWrite wait) = wait1.FdWrite (p1_subscription_fd_readwrite wait)
+p1_subscription_u (wait0.FdRead wait) = wait1.FdRead wait
+p1_subscription_u (wait0.FdWrite wait) = wait1.FdWrite wait
 
 abbrev pub p1_subscription : subscription0.Subscription → subscription1.Subscription
 p1_subscription wait = record { userdata = wait.userdata; u = p1_subscription_u wait.u }

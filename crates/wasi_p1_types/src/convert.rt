@@ -1,5 +1,4 @@
 //! Types of one preview from those of the other: each name to the same name.
 
-mod enums;
 mod flags;
 mod records;

@@ -2,185 +2,15 @@
 
 mod flags;
 
+pub use crate::both::{
+    Advice, Clockid, Fd, Filetype, Prestat, PrestatDir, Signal, SubscriptionFdReadwrite, Whence,
+};
+pub use crate::errno::Errno;
 pub use flags::{Fdflags, Fstflags, Lookupflags, Oflags, Rights, Subclockflags};
 use wasi_base::TrappableError;
 
-/// The number of a descriptor.
-pub type Fd = u32;
-
 /// An error that the guest is told, a trap, or want of memory.
 pub type Error = TrappableError<Errno>;
-
-/// The error that a call tells its guest.
-#[derive(Clone, Copy, Debug, PartialEq, Eq)]
-pub enum Errno {
-    Success,
-    TooBig,
-    Acces,
-    Addrinuse,
-    Addrnotavail,
-    Afnosupport,
-    Again,
-    Already,
-    Badf,
-    Badmsg,
-    Busy,
-    Canceled,
-    Child,
-    Connaborted,
-    Connrefused,
-    Connreset,
-    Deadlk,
-    Destaddrreq,
-    Dom,
-    Dquot,
-    Exist,
-    Fault,
-    Fbig,
-    Hostunreach,
-    Idrm,
-    Ilseq,
-    Inprogress,
-    Intr,
-    Inval,
-    Io,
-    Isconn,
-    Isdir,
-    Loop,
-    Mfile,
-    Mlink,
-    Msgsize,
-    Multihop,
-    Nametoolong,
-    Netdown,
-    Netreset,
-    Netunreach,
-    Nfile,
-    Nobufs,
-    Nodev,
-    Noent,
-    Noexec,
-    Nolck,
-    Nolink,
-    Nomem,
-    Nomsg,
-    Noprotoopt,
-    Nospc,
-    Nosys,
-    Notconn,
-    Notdir,
-    Notempty,
-    Notrecoverable,
-    Notsock,
-    Notsup,
-    Notty,
-    Nxio,
-    Overflow,
-    Ownerdead,
-    Perm,
-    Pipe,
-    Proto,
-    Protonosupport,
-    Prototype,
-    Range,
-    Rofs,
-    Spipe,
-    Srch,
-    Stale,
-    Timedout,
-    Txtbsy,
-    Xdev,
-    Notcapable,
-}
-
-/// A clock.
-#[derive(Clone, Copy, Debug, PartialEq, Eq)]
-pub enum Clockid {
-    Realtime,
-    Monotonic,
-    ProcessCputimeId,
-    ThreadCputimeId,
-}
-
-/// How a file will be used.
-#[derive(Clone, Copy, Debug, PartialEq, Eq)]
-pub enum Advice {
-    Normal,
-    Sequential,
-    Random,
-    Willneed,
-    Dontneed,
-    Noreuse,
-}
-
-/// Where a seek counts from.
-#[derive(Clone, Copy, Debug, PartialEq, Eq)]
-pub enum Whence {
-    Cur,
-    End,
-    Set,
-}
-
-/// A signal that a guest raises.
-#[derive(Clone, Copy, Debug, PartialEq, Eq)]
-pub enum Signal {
-    None,
-    Hup,
-    Int,
-    Quit,
-    Ill,
-    Trap,
-    Abrt,
-    Bus,
-    Fpe,
-    Kill,
-    Usr1,
-    Segv,
-    Usr2,
-    Pipe,
-    Alrm,
-    Term,
-    Chld,
-    Cont,
-    Stop,
-    Tstp,
-    Ttin,
-    Ttou,
-    Urg,
-    Xcpu,
-    Xfsz,
-    Vtalrm,
-    Prof,
-    Winch,
-    Poll,
-    Pwr,
-    Sys,
-}
-
-/// What a descriptor or a directory's entry names.
-#[derive(Clone, Copy, Debug, PartialEq, Eq)]
-pub enum Filetype {
-    Directory,
-    BlockDevice,
-    CharacterDevice,
-    RegularFile,
-    SocketDgram,
-    SocketStream,
-    SymbolicLink,
-    Unknown,
-}
-
-/// A directory that the guest was given, by the length of its name in bytes.
-#[derive(Clone, Copy, Debug, PartialEq, Eq)]
-pub struct PrestatDir {
-    pub pr_name_len: u32,
-}
-
-/// What the guest was given under a descriptor.
-#[derive(Clone, Copy, Debug, PartialEq, Eq)]
-pub enum Prestat {
-    Dir(PrestatDir),
-}
 
 /// What a descriptor names and allows.
 #[derive(Clone, Copy, Debug, PartialEq, Eq)]
@@ -214,12 +44,6 @@ pub struct SubscriptionClock {
     pub timeout: u64,
     pub precision: u64,
     pub flags: Subclockflags,
-}
-
-/// A wait for a descriptor.
-#[derive(Clone, Copy, Debug, PartialEq, Eq)]
-pub struct SubscriptionFdReadwrite {
-    pub file_descriptor: Fd,
 }
 
 /// What a poll waits for.

@@ -1,121 +1,88 @@
-//! Each name through its conversion, against lists of names that stand here.
+//! Each name as it prints or through its conversion, against lists of names that stand here.
 
 use crate::{p0, p1};
 use bitflags::Flags;
 use std::test::Fail;
+use wasi_base::TrapText;
 
 const ERRNOS: [(p1::Errno, &str); 77] = [
-    (p1::Errno::Success, "Success"),
-    (p1::Errno::TooBig, "TooBig"),
-    (p1::Errno::Acces, "Acces"),
-    (p1::Errno::Addrinuse, "Addrinuse"),
-    (p1::Errno::Addrnotavail, "Addrnotavail"),
-    (p1::Errno::Afnosupport, "Afnosupport"),
-    (p1::Errno::Again, "Again"),
-    (p1::Errno::Already, "Already"),
-    (p1::Errno::Badf, "Badf"),
-    (p1::Errno::Badmsg, "Badmsg"),
-    (p1::Errno::Busy, "Busy"),
-    (p1::Errno::Canceled, "Canceled"),
-    (p1::Errno::Child, "Child"),
-    (p1::Errno::Connaborted, "Connaborted"),
-    (p1::Errno::Connrefused, "Connrefused"),
-    (p1::Errno::Connreset, "Connreset"),
-    (p1::Errno::Deadlk, "Deadlk"),
-    (p1::Errno::Destaddrreq, "Destaddrreq"),
-    (p1::Errno::Dom, "Dom"),
-    (p1::Errno::Dquot, "Dquot"),
-    (p1::Errno::Exist, "Exist"),
-    (p1::Errno::Fault, "Fault"),
-    (p1::Errno::Fbig, "Fbig"),
-    (p1::Errno::Hostunreach, "Hostunreach"),
-    (p1::Errno::Idrm, "Idrm"),
-    (p1::Errno::Ilseq, "Ilseq"),
-    (p1::Errno::Inprogress, "Inprogress"),
-    (p1::Errno::Intr, "Intr"),
-    (p1::Errno::Inval, "Inval"),
-    (p1::Errno::Io, "Io"),
-    (p1::Errno::Isconn, "Isconn"),
-    (p1::Errno::Isdir, "Isdir"),
-    (p1::Errno::Loop, "Loop"),
-    (p1::Errno::Mfile, "Mfile"),
-    (p1::Errno::Mlink, "Mlink"),
-    (p1::Errno::Msgsize, "Msgsize"),
-    (p1::Errno::Multihop, "Multihop"),
-    (p1::Errno::Nametoolong, "Nametoolong"),
-    (p1::Errno::Netdown, "Netdown"),
-    (p1::Errno::Netreset, "Netreset"),
-    (p1::Errno::Netunreach, "Netunreach"),
-    (p1::Errno::Nfile, "Nfile"),
-    (p1::Errno::Nobufs, "Nobufs"),
-    (p1::Errno::Nodev, "Nodev"),
-    (p1::Errno::Noent, "Noent"),
-    (p1::Errno::Noexec, "Noexec"),
-    (p1::Errno::Nolck, "Nolck"),
-    (p1::Errno::Nolink, "Nolink"),
-    (p1::Errno::Nomem, "Nomem"),
-    (p1::Errno::Nomsg, "Nomsg"),
-    (p1::Errno::Noprotoopt, "Noprotoopt"),
-    (p1::Errno::Nospc, "Nospc"),
-    (p1::Errno::Nosys, "Nosys"),
-    (p1::Errno::Notconn, "Notconn"),
-    (p1::Errno::Notdir, "Notdir"),
-    (p1::Errno::Notempty, "Notempty"),
-    (p1::Errno::Notrecoverable, "Notrecoverable"),
-    (p1::Errno::Notsock, "Notsock"),
-    (p1::Errno::Notsup, "Notsup"),
-    (p1::Errno::Notty, "Notty"),
-    (p1::Errno::Nxio, "Nxio"),
-    (p1::Errno::Overflow, "Overflow"),
-    (p1::Errno::Ownerdead, "Ownerdead"),
-    (p1::Errno::Perm, "Perm"),
-    (p1::Errno::Pipe, "Pipe"),
-    (p1::Errno::Proto, "Proto"),
-    (p1::Errno::Protonosupport, "Protonosupport"),
-    (p1::Errno::Prototype, "Prototype"),
-    (p1::Errno::Range, "Range"),
-    (p1::Errno::Rofs, "Rofs"),
-    (p1::Errno::Spipe, "Spipe"),
-    (p1::Errno::Srch, "Srch"),
-    (p1::Errno::Stale, "Stale"),
-    (p1::Errno::Timedout, "Timedout"),
-    (p1::Errno::Txtbsy, "Txtbsy"),
-    (p1::Errno::Xdev, "Xdev"),
-    (p1::Errno::Notcapable, "Notcapable"),
-];
-
-const SIGNALS: [(p0::Signal, &str); 31] = [
-    (p0::Signal::None, "None"),
-    (p0::Signal::Hup, "Hup"),
-    (p0::Signal::Int, "Int"),
-    (p0::Signal::Quit, "Quit"),
-    (p0::Signal::Ill, "Ill"),
-    (p0::Signal::Trap, "Trap"),
-    (p0::Signal::Abrt, "Abrt"),
-    (p0::Signal::Bus, "Bus"),
-    (p0::Signal::Fpe, "Fpe"),
-    (p0::Signal::Kill, "Kill"),
-    (p0::Signal::Usr1, "Usr1"),
-    (p0::Signal::Segv, "Segv"),
-    (p0::Signal::Usr2, "Usr2"),
-    (p0::Signal::Pipe, "Pipe"),
-    (p0::Signal::Alrm, "Alrm"),
-    (p0::Signal::Term, "Term"),
-    (p0::Signal::Chld, "Chld"),
-    (p0::Signal::Cont, "Cont"),
-    (p0::Signal::Stop, "Stop"),
-    (p0::Signal::Tstp, "Tstp"),
-    (p0::Signal::Ttin, "Ttin"),
-    (p0::Signal::Ttou, "Ttou"),
-    (p0::Signal::Urg, "Urg"),
-    (p0::Signal::Xcpu, "Xcpu"),
-    (p0::Signal::Xfsz, "Xfsz"),
-    (p0::Signal::Vtalrm, "Vtalrm"),
-    (p0::Signal::Prof, "Prof"),
-    (p0::Signal::Winch, "Winch"),
-    (p0::Signal::Poll, "Poll"),
-    (p0::Signal::Pwr, "Pwr"),
-    (p0::Signal::Sys, "Sys"),
+    (p1::Errno::Success, "success"),
+    (p1::Errno::TooBig, "2big"),
+    (p1::Errno::Acces, "acces"),
+    (p1::Errno::Addrinuse, "addrinuse"),
+    (p1::Errno::Addrnotavail, "addrnotavail"),
+    (p1::Errno::Afnosupport, "afnosupport"),
+    (p1::Errno::Again, "again"),
+    (p1::Errno::Already, "already"),
+    (p1::Errno::Badf, "badf"),
+    (p1::Errno::Badmsg, "badmsg"),
+    (p1::Errno::Busy, "busy"),
+    (p1::Errno::Canceled, "canceled"),
+    (p1::Errno::Child, "child"),
+    (p1::Errno::Connaborted, "connaborted"),
+    (p1::Errno::Connrefused, "connrefused"),
+    (p1::Errno::Connreset, "connreset"),
+    (p1::Errno::Deadlk, "deadlk"),
+    (p1::Errno::Destaddrreq, "destaddrreq"),
+    (p1::Errno::Dom, "dom"),
+    (p1::Errno::Dquot, "dquot"),
+    (p1::Errno::Exist, "exist"),
+    (p1::Errno::Fault, "fault"),
+    (p1::Errno::Fbig, "fbig"),
+    (p1::Errno::Hostunreach, "hostunreach"),
+    (p1::Errno::Idrm, "idrm"),
+    (p1::Errno::Ilseq, "ilseq"),
+    (p1::Errno::Inprogress, "inprogress"),
+    (p1::Errno::Intr, "intr"),
+    (p1::Errno::Inval, "inval"),
+    (p1::Errno::Io, "io"),
+    (p1::Errno::Isconn, "isconn"),
+    (p1::Errno::Isdir, "isdir"),
+    (p1::Errno::Loop, "loop"),
+    (p1::Errno::Mfile, "mfile"),
+    (p1::Errno::Mlink, "mlink"),
+    (p1::Errno::Msgsize, "msgsize"),
+    (p1::Errno::Multihop, "multihop"),
+    (p1::Errno::Nametoolong, "nametoolong"),
+    (p1::Errno::Netdown, "netdown"),
+    (p1::Errno::Netreset, "netreset"),
+    (p1::Errno::Netunreach, "netunreach"),
+    (p1::Errno::Nfile, "nfile"),
+    (p1::Errno::Nobufs, "nobufs"),
+    (p1::Errno::Nodev, "nodev"),
+    (p1::Errno::Noent, "noent"),
+    (p1::Errno::Noexec, "noexec"),
+    (p1::Errno::Nolck, "nolck"),
+    (p1::Errno::Nolink, "nolink"),
+    (p1::Errno::Nomem, "nomem"),
+    (p1::Errno::Nomsg, "nomsg"),
+    (p1::Errno::Noprotoopt, "noprotoopt"),
+    (p1::Errno::Nospc, "nospc"),
+    (p1::Errno::Nosys, "nosys"),
+    (p1::Errno::Notconn, "notconn"),
+    (p1::Errno::Notdir, "notdir"),
+    (p1::Errno::Notempty, "notempty"),
+    (p1::Errno::Notrecoverable, "notrecoverable"),
+    (p1::Errno::Notsock, "notsock"),
+    (p1::Errno::Notsup, "notsup"),
+    (p1::Errno::Notty, "notty"),
+    (p1::Errno::Nxio, "nxio"),
+    (p1::Errno::Overflow, "overflow"),
+    (p1::Errno::Ownerdead, "ownerdead"),
+    (p1::Errno::Perm, "perm"),
+    (p1::Errno::Pipe, "pipe"),
+    (p1::Errno::Proto, "proto"),
+    (p1::Errno::Protonosupport, "protonosupport"),
+    (p1::Errno::Prototype, "prototype"),
+    (p1::Errno::Range, "range"),
+    (p1::Errno::Rofs, "rofs"),
+    (p1::Errno::Spipe, "spipe"),
+    (p1::Errno::Srch, "srch"),
+    (p1::Errno::Stale, "stale"),
+    (p1::Errno::Timedout, "timedout"),
+    (p1::Errno::Txtbsy, "txtbsy"),
+    (p1::Errno::Xdev, "xdev"),
+    (p1::Errno::Notcapable, "notcapable"),
 ];
 
 const RIGHTS: [&str; 29] = [
@@ -151,23 +118,33 @@ const RIGHTS: [&str; 29] = [
 ];
 
 #[test]
-fn an_errno_keeps_its_name(rt: HostRuntime) -> Result<(), Fail> {
+fn an_errno_prints_its_name(rt: HostRuntime) -> Result<(), Fail> {
     for (errno, name) in ERRNOS {
-        let converted = p0::Errno::from(errno);
-        let text = format!(in rt.alloc(); "{converted:?}")?;
-        assert_eq!(rt; text.as_str(), name);
+        assert_eq!(rt; errno.to_string(rt.alloc())?.as_str(), name);
+        let wide = format!(in rt.alloc(); "{errno:>20}")?;
+        assert_eq!(rt; wide.as_str(), name);
     }
     Ok(())
 }
 
 #[test]
-fn a_signal_keeps_its_name(rt: HostRuntime) -> Result<(), Fail> {
-    for (signal, name) in SIGNALS {
-        let converted = p1::Signal::from(signal);
-        let text = format!(in rt.alloc(); "{converted:?}")?;
-        assert_eq!(rt; text.as_str(), name);
-    }
+fn an_error_of_either_preview_prints(rt: HostRuntime) -> Result<(), Fail> {
+    let badf = p1::Error::Normal(p1::Errno::Badf);
+    assert_eq!(rt; badf.to_string(rt.alloc())?.as_str(), "badf");
+    let unsupported = p0::Error::Trap(TrapText::SockSendUnsupported);
+    let text = unsupported.to_string(rt.alloc())?;
+    assert_eq!(rt; text.as_str(), "sock_send unsupported");
+    let text = p0::Error::OutOfMemory.to_string(rt.alloc())?;
+    assert_eq!(rt; text.as_str(), "out of memory");
     Ok(())
+}
+
+#[test]
+fn what_both_have_alike_is_one_type(rt: HostRuntime) {
+    assert_eq!(rt; p0::Errno::from(p1::Errno::Nospc), p0::Errno::Nospc);
+    assert_eq!(rt; p1::Signal::from(p0::Signal::Usr2), p1::Signal::Usr2);
+    let dir = p1::Prestat::Dir(p1::PrestatDir { pr_name_len: 3 });
+    assert_eq!(rt; p0::Prestat::from(dir), dir);
 }
 
 #[test]

@@ -1,3 +1,4 @@
 pub mod Cycle
 pub mod Draws
 pub mod Generators
+pub mod Refused

@@ -1,8 +1,8 @@
 ghost use Rattle.std.specs.Prelude.{◌≡◌};
 
 use std::alloc::AllocError;
+use std::fmt;
 use std::marker::Model;
-use thiserror::Error;
 use wasi_base::{OutOfMemory, TrapText};
 
 /// Random bytes, which contracts see as a list.
@@ -40,14 +40,29 @@ impl RandomBytes {
 }
 
 /// Why a guest gets no random bytes.
-#[derive(Clone, Copy, Debug, PartialEq, Eq, Error)]
+#[derive(Clone, Copy, Debug, PartialEq, Eq)]
 pub enum RandomRefused {
     /// It asked for more than the limit, and is trapped.
-    #[error("{0}")]
     Trap(TrapText),
-    #[error("out of memory")]
     OutOfMemory,
 }
+
+/// A trap prints its text.
+impl fmt::Display for RandomRefused {
+    ghost use Rattle.std.specs.Prelude.{Some};
+    ghost use Rattle.wasi_random.specs.Refused.{refused_text};
+
+    ghost output = { λ refused. Some (refused_text refused) };
+
+    fn fmt<W: fmt::Write>(&self, f: &mut fmt::Formatter<W>) -> fmt::Result {
+        match self {
+            RandomRefused::Trap(text) => text.fmt(f),
+            RandomRefused::OutOfMemory => f.write_str("out of memory"),
+        }
+    }
+}
+
+impl std::error::Error for RandomRefused {}
 
 impl From<OutOfMemory> for RandomRefused {
     ghost use Rattle.wasi_random.specs.declared.bytes.RandomRefused.TheVariants as refused;

@@ -160,6 +160,27 @@ fn limits(rt: HostRuntime) -> Result<(), Fail> {
     Ok(())
 }
 
+#[test]
+fn texts_of_refusals(rt: HostRuntime) -> Result<(), Fail> {
+    let trap = TrapText::RequestedLength {
+        length: u64::MAX,
+        limit: 67_108_864,
+    };
+    let texts = [
+        (
+            RandomRefused::Trap(trap),
+            "requested len 18446744073709551615 exceeds limit 67108864",
+        ),
+        (RandomRefused::OutOfMemory, "out of memory"),
+    ];
+    for (refused, text) in texts {
+        assert_eq!(rt; refused.to_string(rt.alloc())?.as_str(), text);
+        let wide = format!(in rt.alloc(); "{refused:>70}")?;
+        assert_eq!(rt; wide.as_str(), text);
+    }
+    Ok(())
+}
+
 /// A caller's generator: each word is one more than the one before.
 #[derive(Drop)]
 struct Counting {

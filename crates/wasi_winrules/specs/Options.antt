@@ -1,7 +1,7 @@
 -- How a file is to be opened.
 use Rattle.std.specs.Prelude.{ℕ, Bool, true, false, not, ◌&&◌, ◌||◌, None, bit_or, if◌then◌else◌}
 use Rattle.wasi_winrules.specs.Flags.{flag_if, without}
-use Rattle.wasi_winrules.specs.declared.numbers.TheConstants.{FILE_SHARE_READ, FILE_SHARE_WRITE, FILE_SHARE_DELETE, FILE_FLAG_BACKUP_SEMANTICS, FILE_FLAG_OPEN_REPARSE_POINT, FILE_FLAG_WRITE_THROUGH}
+use Rattle.wasi_winrules.specs.Numbers.{file_share_read, file_share_write, file_share_delete, file_flag_backup_semantics, file_flag_open_reparse_point, file_flag_write_through}
 use Rattle.wasi_winrules.specs.declared.options.OpenOptions.{OpenOptions}
 use Rattle.wasi_winrules.specs.declared.options.FollowSymlinks.{FollowSymlinks}
 use Rattle.wasi_winrules.specs.declared.options.FollowSymlinks.TheVariants.{Yes, No}
@@ -20,7 +20,7 @@ new_options = record {
   dsync = false;
   follow = Yes;
   access_mode = None;
-  share_mode = bit_or (bit_or FILE_SHARE_READ FILE_SHARE_WRITE) FILE_SHARE_DELETE;
+  share_mode = bit_or (bit_or file_share_read file_share_write) file_share_delete;
   custom_flags = 0;
   attributes = 0;
   security_qos_flags = 0;
@@ -30,8 +30,8 @@ abbrev pub options_for_directories : OpenOptions
 options_for_directories = record new_options {
   read = true;
   dir_required = true;
-  custom_flags = FILE_FLAG_BACKUP_SEMANTICS;
-  share_mode = bit_or FILE_SHARE_READ FILE_SHARE_WRITE;
+  custom_flags = file_flag_backup_semantics;
+  share_mode = bit_or file_share_read file_share_write;
 }
 
 -- a link is opened itself and not followed
@@ -40,7 +40,7 @@ opens_link Yes = false
 opens_link No = true
 
 abbrev pub flags_and_attributes_of : OpenOptions → ℕ
-flags_and_attributes_of o = bit_or (bit_or (bit_or o.custom_flags o.attributes) o.security_qos_flags) (flag_if o.create_new FILE_FLAG_OPEN_REPARSE_POINT)
+flags_and_attributes_of o = bit_or (bit_or (bit_or o.custom_flags o.attributes) o.security_qos_flags) (flag_if o.create_new file_flag_open_reparse_point)
 
 -- a link that is opened to be written and emptied, and neither appended to nor made: its target is emptied once it is open
 abbrev pub truncates_after_opening : OpenOptions → Bool
@@ -48,13 +48,13 @@ truncates_after_opening o = opens_link o.follow && (o.write && o.truncate) && no
 
 abbrev pub flags_to_open : OpenOptions → ℕ
 flags_to_open o = bit_or (bit_or (bit_or o.custom_flags
-    (flag_if (opens_link o.follow) FILE_FLAG_OPEN_REPARSE_POINT))
-    (flag_if o.maybe_dir FILE_FLAG_BACKUP_SEMANTICS))
-    (flag_if (o.sync || o.dsync) FILE_FLAG_WRITE_THROUGH)
+    (flag_if (opens_link o.follow) file_flag_open_reparse_point))
+    (flag_if o.maybe_dir file_flag_backup_semantics))
+    (flag_if (o.sync || o.dsync) file_flag_write_through)
 
 -- what may turn out to be a directory is not to be deleted or renamed meanwhile
 abbrev pub share_mode_to_open : OpenOptions → ℕ
-share_mode_to_open o = if o.maybe_dir then without o.share_mode FILE_SHARE_DELETE else o.share_mode
+share_mode_to_open o = if o.maybe_dir then without o.share_mode file_share_delete else o.share_mode
 
 abbrev pub prepared : OpenOptions → OpenOptions
 prepared o = record o {
@@ -64,4 +64,4 @@ prepared o = record o {
 }
 
 abbrev pub with_maybe_dir : OpenOptions → OpenOptions
-with_maybe_dir o = record o { custom_flags = FILE_FLAG_BACKUP_SEMANTICS; share_mode = bit_or FILE_SHARE_READ FILE_SHARE_WRITE }
+with_maybe_dir o = record o { custom_flags = file_flag_backup_semantics; share_mode = bit_or file_share_read file_share_write }

@@ -2,9 +2,9 @@
 use Rattle.std.specs.Prelude.{ℕ, ◌+◌, ◌*◌, ◌%◌, Bool, not, ◌&&◌, ◌||◌, ◌==◌, Option, Some, None, Result, Ok, Err, List, [], ◌∷◌, length, drop, codes, if◌then◌else◌, nat_lt, nat_eq, slice_index, slice_range}
 use Rattle.std.specs.List.{starts_with}
 use Rattle.wasi_winrules.specs.Flags.{has_flag}
-use Rattle.wasi_winrules.specs.declared.numbers.TheConstants.{IO_REPARSE_TAG_SYMLINK, IO_REPARSE_TAG_MOUNT_POINT, SYMLINK_FLAG_RELATIVE}
+use Rattle.wasi_winrules.specs.Numbers.{io_reparse_tag_symlink, io_reparse_tag_mount_point, symlink_flag_relative}
 use Rattle.wasi_winrules.specs.declared.reparse.ReparseError.{ReparseError}
-use Rattle.wasi_winrules.specs.declared.reparse.ReparseError.TheVariants.{Malformed, Unsupported}
+use Rattle.wasi_winrules.specs.declared.reparse.ReparseError.TheVariants.{Malformed, Unsupported, OutOfMemory}
 
 -- numbers, their low byte first
 abbrev pub u16_at : List ℕ → ℕ → ℕ
@@ -29,13 +29,13 @@ shown relative name = if not relative && starts_with nat_eq name nt_prefix then 
 -- where the names of a record with this tag begin
 abbrev pub names_begin : ℕ → Option ℕ
 names_begin tag =
-    if tag == IO_REPARSE_TAG_SYMLINK then Some 20
-    else (if tag == IO_REPARSE_TAG_MOUNT_POINT then Some 16
+    if tag == io_reparse_tag_symlink then Some 20
+    else (if tag == io_reparse_tag_mount_point then Some 16
     else None)
 
 -- a link says whether its name is relative; that of a mount point never is
 abbrev pub is_relative : List ℕ → Bool
-is_relative bytes = u32_at bytes 0 == IO_REPARSE_TAG_SYMLINK && has_flag (u32_at bytes 16) SYMLINK_FLAG_RELATIVE
+is_relative bytes = u32_at bytes 0 == io_reparse_tag_symlink && has_flag (u32_at bytes 16) symlink_flag_relative
 
 -- from where to where the name stands
 abbrev pub name_start : List ℕ → ℕ → ℕ
@@ -60,3 +60,8 @@ name_at (Some begin) bytes =
 -- the name in a record, or why there is none
 abbrev pub name_in : List ℕ → Result (List ℕ) ReparseError
 name_in bytes = if nat_lt (length bytes) 8 then Err Malformed else name_at (names_begin (u32_at bytes 0)) bytes
+
+abbrev pub reparse_error_text : ReparseError → List ℕ
+reparse_error_text Malformed = codes "malformed reparse point data"
+reparse_error_text Unsupported = codes "Unsupported reparse point type"
+reparse_error_text OutOfMemory = codes "out of memory"

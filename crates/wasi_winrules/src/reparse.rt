@@ -1,23 +1,49 @@
 ghost use Rattle.std.specs.Prelude.{◌≡◌, ◌+◌, ◌≤◌, ℕ, Bool, false, List, length, IfOk, IfErr, IfSome, MatchResult, Ok, Err, slice_range};
-ghost use Rattle.wasi_winrules.specs.Reparse.{u16_at, u32_at, units_in, shown, names_begin, is_relative, name_at, name_in};
+ghost use Rattle.wasi_winrules.specs.Numbers.{io_reparse_tag_symlink};
+ghost use Rattle.wasi_winrules.specs.Reparse.{u16_at, u32_at, units_in, shown, names_begin, is_relative, name_at, name_in, reparse_error_text};
 
 use crate::flags::has_flag;
 use crate::numbers::{IO_REPARSE_TAG_MOUNT_POINT, IO_REPARSE_TAG_SYMLINK, SYMLINK_FLAG_RELATIVE};
 use std::alloc::{AllocError, Global};
-use thiserror::Error;
+use std::fmt;
 
 /// Why the data of a reparse point gave no name.
-#[derive(Clone, Copy, Debug, PartialEq, Eq, Drop, Error)]
+#[derive(Clone, Copy, Debug, PartialEq, Eq, Drop)]
 pub enum ReparseError {
     /// The data is cut off, or its name is not within it or not made of whole units.
-    #[error("malformed reparse point data")]
     Malformed,
     /// The reparse point is neither a link nor a mount point.
-    #[error("Unsupported reparse point type")]
     Unsupported,
-    #[error("out of memory")]
     OutOfMemory,
 }
+
+impl ReparseError {
+    fn text(&self) -> &'static str
+        ensures { result.now ≡ reparse_error_text self.now }
+    {
+        match self {
+            ReparseError::Malformed => "malformed reparse point data",
+            ReparseError::Unsupported => "Unsupported reparse point type",
+            ReparseError::OutOfMemory => "out of memory",
+        }
+    }
+}
+
+/// The text as it is, also where a width or a precision is asked for.
+impl fmt::Display for ReparseError {
+    ghost use Rattle.std.specs.Prelude.{Some};
+    ghost use Rattle.wasi_winrules.specs.Reparse.{reparse_error_text};
+
+    ghost output = { λ error. Some (reparse_error_text error) };
+
+    ghost styled_output = { λ error _. Some (reparse_error_text error) };
+
+    fn fmt<W: fmt::Write>(&self, f: &mut fmt::Formatter<W>) -> fmt::Result {
+        f.write_str(self.text())
+    }
+}
+
+impl std::error::Error for ReparseError {}
 
 impl From<AllocError> for ReparseError {
     ghost use Rattle.wasi_winrules.specs.declared.reparse.ReparseError.TheVariants.{OutOfMemory};
@@ -55,7 +81,7 @@ fn u32_at(bytes: &[u8], place: usize) -> u32
 fn names_begin(tag: u32) -> Option<usize>
     ensures place { result ≡ names_begin tag }
     ensures bounds { IfSome result (λ begin. (16 ≤ begin) × (begin ≤ 20)) }
-    ensures link { tag ≡ IO_REPARSE_TAG_SYMLINK → result ≡ Some 20 }
+    ensures link { tag ≡ io_reparse_tag_symlink → result ≡ Some 20 }
 {
     match tag {
         IO_REPARSE_TAG_SYMLINK => Some(20),
@@ -90,7 +116,7 @@ fn without_prefix(name: &[u8]) -> &[u8]
 /// Whether the data is that of a link whose name is relative.
 fn is_relative(bytes: &[u8]) -> bool
     requires whole { 16 ≤ length bytes.now }
-    requires link { u32_at bytes.now 0 ≡ IO_REPARSE_TAG_SYMLINK → 20 ≤ length bytes.now }
+    requires link { u32_at bytes.now 0 ≡ io_reparse_tag_symlink → 20 ≤ length bytes.now }
     ensures { result ≡ is_relative bytes.now }
 {
     u32_at(bytes, 0) == IO_REPARSE_TAG_SYMLINK && has_flag(u32_at(bytes, 16), SYMLINK_FLAG_RELATIVE)
@@ -99,7 +125,7 @@ fn is_relative(bytes: &[u8]) -> bool
 /// The bytes of the name as it is shown, in data whose names begin here.
 fn name_at(bytes: &[u8], begin: usize) -> Result<&[u8], ReparseError>
     requires bounds { (16 ≤ begin) × (begin ≤ 20) }
-    requires link { u32_at bytes.now 0 ≡ IO_REPARSE_TAG_SYMLINK → begin ≡ 20 }
+    requires link { u32_at bytes.now 0 ≡ io_reparse_tag_symlink → begin ≡ 20 }
     ensures { MatchResult result (λ name. name_at (Some begin) bytes.now ≡ Ok (units_in name.now)) (λ error. name_at (Some begin) bytes.now ≡ Err error) }
 {
     if bytes.len() < begin {

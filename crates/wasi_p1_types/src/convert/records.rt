@@ -1,34 +1,14 @@
 ghost use Rattle.std.specs.Prelude.{◌≡◌};
-ghost use Rattle.wasi_p1_types.specs.Records.{p0_prestat_dir, p0_prestat, p0_fdstat, p0_filestat, p1_subscription_clock, p1_subscription_fd_readwrite, p1_subscription_u, p1_subscription};
+ghost use Rattle.wasi_p1_types.specs.Records.{p0_fdstat, p0_filestat, p1_subscription_clock, p1_subscription_u, p1_subscription};
 
 use crate::{p0, p1};
-
-impl From<p1::PrestatDir> for p0::PrestatDir {
-    ghost from_gives = { λ dir result. result ≡ p0_prestat_dir dir };
-
-    fn from(dir: p1::PrestatDir) -> p0::PrestatDir {
-        p0::PrestatDir {
-            pr_name_len: dir.pr_name_len,
-        }
-    }
-}
-
-impl From<p1::Prestat> for p0::Prestat {
-    ghost from_gives = { λ prestat result. result ≡ p0_prestat prestat };
-
-    fn from(prestat: p1::Prestat) -> p0::Prestat {
-        match prestat {
-            p1::Prestat::Dir(dir) => p0::Prestat::Dir(dir.into()),
-        }
-    }
-}
 
 impl From<p1::Fdstat> for p0::Fdstat {
     ghost from_gives = { λ stat result. result ≡ p0_fdstat stat };
 
     fn from(stat: p1::Fdstat) -> p0::Fdstat {
         p0::Fdstat {
-            fs_filetype: stat.fs_filetype.into(),
+            fs_filetype: stat.fs_filetype,
             fs_flags: stat.fs_flags.into(),
             fs_rights_base: stat.fs_rights_base.into(),
             fs_rights_inheriting: stat.fs_rights_inheriting.into(),
@@ -43,7 +23,7 @@ impl From<p1::Filestat> for p0::Filestat {
         p0::Filestat {
             dev: stat.dev,
             ino: stat.ino,
-            filetype: stat.filetype.into(),
+            filetype: stat.filetype,
             nlink: stat.nlink.min(u64::from(u32::MAX)) as u32,
             size: stat.size,
             atim: stat.atim,
@@ -58,20 +38,10 @@ impl From<p0::SubscriptionClock> for p1::SubscriptionClock {
 
     fn from(clock: p0::SubscriptionClock) -> p1::SubscriptionClock {
         p1::SubscriptionClock {
-            id: clock.id.into(),
+            id: clock.id,
             timeout: clock.timeout,
             precision: clock.precision,
             flags: clock.flags.into(),
-        }
-    }
-}
-
-impl From<p0::SubscriptionFdReadwrite> for p1::SubscriptionFdReadwrite {
-    ghost from_gives = { λ wait result. result ≡ p1_subscription_fd_readwrite wait };
-
-    fn from(wait: p0::SubscriptionFdReadwrite) -> p1::SubscriptionFdReadwrite {
-        p1::SubscriptionFdReadwrite {
-            file_descriptor: wait.file_descriptor,
         }
     }
 }
@@ -82,8 +52,8 @@ impl From<p0::SubscriptionU> for p1::SubscriptionU {
     fn from(wait: p0::SubscriptionU) -> p1::SubscriptionU {
         match wait {
             p0::SubscriptionU::Clock(clock) => p1::SubscriptionU::Clock(clock.into()),
-            p0::SubscriptionU::FdRead(read) => p1::SubscriptionU::FdRead(read.into()),
-            p0::SubscriptionU::FdWrite(write) => p1::SubscriptionU::FdWrite(write.into()),
+            p0::SubscriptionU::FdRead(read) => p1::SubscriptionU::FdRead(read),
+            p0::SubscriptionU::FdWrite(write) => p1::SubscriptionU::FdWrite(write),
         }
     }
 }

@@ -20,6 +20,10 @@ fn strips_separators(rt: HostRuntime) -> Result<(), Fail> {
         ("\\", "\\"),
         ("\\\\", "\\"),
         ("", ""),
+        ("/.", "/."),
+        ("//.", "//."),
+        (".", "."),
+        ("foo/.", "foo/."),
     ];
     for (path, kept) in cases {
         let whole = wide(rt.alloc(), path)?;

@@ -87,6 +87,8 @@ fn tells_why(rt: HostRuntime) -> Result<(), Fail> {
     ];
     for (error, text) in texts {
         assert_eq!(rt; error.to_string(rt.alloc())?.as_str(), text);
+        let wide = format!(in rt.alloc(); "{error:>40}")?;
+        assert_eq!(rt; wide.as_str(), text);
     }
     Ok(())
 }

@@ -1,0 +1,2 @@
+//! Words on flags that several crates' definitions cite. There is no code here.
+#![tactic(auto)]
