@@ -7,6 +7,6 @@ pub mod Host
 pub mod Run
 pub mod View
 pub mod Transcript
-pub mod Laws
+pub mod Promises
 pub mod Codes
-pub mod lemmas
+pub mod laws

@@ -1,4 +1,4 @@
-ghost use Rattle.wasi_host.specs.Laws.{HostRuns, CallsStayInReach, InputsArePutBack, OutputsArePutBack, GuestsAreIsolated, EachIsAlone, OutputsKeep, OutputsFill};
+ghost use Rattle.wasi_host.specs.Promises.{HostRuns, CallsStayInReach, InputsArePutBack, OutputsArePutBack, GuestsAreIsolated, EachIsAlone, OutputsKeep, OutputsFill};
 
 /// A law: over a source that tells, what the host replies to the steps of a valid script is a run
 /// of the rules on the shared input, which its text shows.

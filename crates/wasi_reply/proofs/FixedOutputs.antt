@@ -4,8 +4,8 @@ use Rattle.std.specs.List.{AllByRecursion}
 use Rattle.std.proofs.lemmas.List.{append-nil}
 use Rattle.wasi_reply.specs.Field.{Field, hex_of, worded}
 use Rattle.wasi_reply.specs.Outputs.{IsOutput, output_lines}
-use Rattle.wasi_reply.specs.lemmas.FieldTexts.{field_line}
-use Rattle.wasi_reply.specs.lemmas.Lacking.{same_parts}
+use Rattle.wasi_reply.specs.laws.FieldTexts.{field_line}
+use Rattle.wasi_reply.specs.laws.Lacking.{same_parts}
 use Rattle.wasi_reply.proofs.SameFields.{same_hex}
 
 -- after its first word: the name, a space, the bytes, a line's end and the rest

@@ -6,10 +6,10 @@ use Rattle.wasi_reply.specs.declared.reply.Reply.{Reply}
 use Rattle.wasi_reply.specs.Field.{fields_text}
 use Rattle.wasi_reply.specs.Lines.{lines_in}
 use Rattle.wasi_reply.specs.Reply.{IsReply, fields_of, text_of, text_of_all}
-use Rattle.wasi_reply.specs.lemmas.FieldTexts.{fields_begin}
-use Rattle.wasi_reply.specs.lemmas.Lacking.{lacking, same_parts}
+use Rattle.wasi_reply.specs.laws.FieldTexts.{fields_begin}
+use Rattle.wasi_reply.specs.laws.Lacking.{lacking, same_parts}
 use Rattle.wasi_reply.proofs.Reader.{forms_after, reply_of, reads_back}
-use Rattle.wasi_reply.specs.lemmas.ReplyLines.{are_lines, reply_word}
+use Rattle.wasi_reply.specs.laws.ReplyLines.{are_lines, reply_word}
 use Rattle.wasi_reply.proofs.SameFields.{form_of, same_fields}
 
 pub texts_fix : (a b : Reply) → IsReply a → IsReply b → text_of a ≡ text_of b → a ≡ b

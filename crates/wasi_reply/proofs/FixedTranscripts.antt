@@ -13,8 +13,8 @@ use Rattle.wasi_reply.specs.Outputs.{IsOutput, output_lines}
 use Rattle.wasi_reply.specs.Reply.{IsReply, text_of, reply_line, text_of_all}
 use Rattle.wasi_reply.proofs.FixedOutputs.{outputs_fix}
 use Rattle.wasi_reply.proofs.FixedReplies.{texts_fix}
-use Rattle.wasi_reply.specs.lemmas.Lacking.{same_parts}
-use Rattle.wasi_reply.specs.lemmas.ReplyLines.{text_line}
+use Rattle.wasi_reply.specs.laws.Lacking.{same_parts}
+use Rattle.wasi_reply.specs.laws.ReplyLines.{text_line}
 
 abbrev begins_output : List ℕ → Bool
 begins_output text = bytes_eq (take 7 text) (codes "output ")

@@ -15,8 +15,8 @@ use Rattle.wasi_base.specs.declared.trap_text.TrapText.TheVariants as trap
 use Rattle.wasi_base.specs.IoKind.{kind_name, kind_named}
 use Rattle.wasi_base.specs.TrapText.{trap_text}
 use Rattle.wasi_reply.specs.Field.{Field, IsField, IsTrap, hex_of, field_text, fields_text}
-use Rattle.wasi_reply.specs.lemmas.FieldTexts.{field_word, is_trap}
-use Rattle.wasi_reply.specs.lemmas.Lacking.{lacks-decimal, same_parts}
+use Rattle.wasi_reply.specs.laws.FieldTexts.{field_word, is_trap}
+use Rattle.wasi_reply.specs.laws.Lacking.{lacks-decimal, same_parts}
 
 pub same_hex : (a b : List ℕ) → IsBytes a → IsBytes b → hex_of a ≡ hex_of b → a ≡ b
 unfolding encode_with

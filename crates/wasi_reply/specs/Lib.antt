@@ -1,7 +1,7 @@
 pub mod Field
-pub mod Laws
+pub mod Promises
 pub mod Lines
 pub mod Outputs
 pub mod Piece
 pub mod Reply
-pub mod lemmas
+pub mod laws

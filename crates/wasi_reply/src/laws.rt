@@ -1,4 +1,4 @@
-ghost use Rattle.wasi_reply.specs.Laws.{AreOneLine, LinesFixOutputs, LinesFixReplies, RepliesAreLines, TextsFixReplies, TranscriptsFixBoth};
+ghost use Rattle.wasi_reply.specs.Promises.{AreOneLine, LinesFixOutputs, LinesFixReplies, RepliesAreLines, TextsFixReplies, TranscriptsFixBoth};
 
 /// A law: no text of a reply holds a line's end.
 pub fn replies_are_one_line()

@@ -11,7 +11,7 @@ use Rattle.wasi_script.specs.declared.lines.Call.{Call}
 use Rattle.wasi_script.specs.Grammar.{may_declare, is_among}
 use Rattle.wasi_reply.specs.declared.reply.Reply.{Reply}
 use Rattle.wasi_host.specs.Host.{Named, Guest, Streams, Host, Answered, names_in, names_of, configured, answer_by, answer, answer_in, called_in, the_rules, guest_of, put_answered}
-use Rattle.wasi_host.specs.lemmas.Steps.{first_of, second_of}
+use Rattle.wasi_host.specs.laws.Steps.{first_of, second_of}
 
 -- a guest that is there
 there : (guests : List (Option Guest)) (n : ℕ) (it : Option Guest) → n < length guests → it ≡ get_or guests n it → get_or guests n None ≡ it

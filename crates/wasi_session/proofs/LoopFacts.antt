@@ -6,7 +6,7 @@ use Rattle.wasi_script.specs.declared.lines.Line.{Line}
 use Rattle.wasi_reply.specs.declared.reply.Reply.{Reply}
 use Rattle.wasi_reply.specs.Reply.{text_of_all, reply_line}
 use Rattle.wasi_host.specs.Host.{Host, IsStep, step_reply, step_host, step_told, replies, host_end, told_end}
-use Rattle.wasi_host.specs.lemmas.Steps.{told_step, next_step}
+use Rattle.wasi_host.specs.laws.Steps.{told_step, next_step}
 
 -- a run so far: what is told now, and what the rest would add and leave
 pub record SoFar (now : Option Told) (host : Host) (text : List ℕ) (rest : List Line) (whole : List ℕ) (end : Host) (last : Told) : Type 0 where

@@ -6,7 +6,7 @@ use Rattle.wasi_base.specs.declared.source.Plan.TheVariants.{Take, Fail}
 use Rattle.wasi_base.specs.Source.{Told, Given, Gives, gives, told_after, given_in, given_by, told_by}
 use Rattle.wasi_base.specs.Source as given
 use Rattle.wasi_stdin.specs.Shared.{held_given}
-use Rattle.wasi_host.specs.lemmas.Deliveries.{given_left}
+use Rattle.wasi_host.specs.laws.Deliveries.{given_left}
 use Rattle.wasi_session.specs.Reading.{HasTaken, IsReadWhole}
 
 given_some : (n : ℕ) (buf : List ℕ) → 0 < n → given_in (Ok n) buf ≡ given.Bytes (take n buf)

@@ -1,4 +1,4 @@
-use Rattle.wasi_host.specs.lemmas.Isolation.{alone}
+use Rattle.wasi_host.specs.laws.Isolation.{alone}
 use Rattle.wasi_host.proofs.laws.each_guest_is_alone.Goals as goal
 
 pub returns : goal.returns

@@ -1,4 +1,4 @@
-use Rattle.wasi_host.specs.lemmas.Isolation.{isolated}
+use Rattle.wasi_host.specs.laws.Isolation.{isolated}
 use Rattle.wasi_host.proofs.laws.guests_are_isolated.Goals as goal
 
 pub returns : goal.returns

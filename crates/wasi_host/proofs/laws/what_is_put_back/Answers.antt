@@ -1,6 +1,6 @@
 use Rattle.wasi_host.specs.declared.stream.InStream.TheVariants as in_stream
 use Rattle.wasi_host.specs.declared.stream.OutStream.TheVariants as out_stream
-use Rattle.wasi_host.specs.lemmas.Reach.{puts_back}
+use Rattle.wasi_host.specs.laws.Reach.{puts_back}
 use Rattle.wasi_host.proofs.laws.what_is_put_back.Goals as goal
 
 pub returns : goal.returns

@@ -1,4 +1,4 @@
-use Rattle.wasi_reply.specs.lemmas.ReplyLines.{are_lines}
+use Rattle.wasi_reply.specs.laws.ReplyLines.{are_lines}
 use Rattle.wasi_reply.proofs.laws.replies_are_lines.Goals as goal
 
 pub returns : goal.returns

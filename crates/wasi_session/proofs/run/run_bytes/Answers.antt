@@ -3,8 +3,8 @@ use Rattle.wasi_base.specs.Sink.{with_more}
 use Rattle.wasi_script.specs.Grammar.{AllStand, no_names, parsed, steps_of, IsGood, lines_of}
 use Rattle.wasi_script.specs.laws.Standing.{stand_from}
 use Rattle.wasi_host.specs.Transcript.{transcript, told_after_run}
-use Rattle.wasi_host.specs.lemmas.Headline.{headline}
-use Rattle.wasi_host.specs.lemmas.Isolation.{alone}
+use Rattle.wasi_host.specs.laws.Headline.{headline}
+use Rattle.wasi_host.specs.laws.Isolation.{alone}
 use Rattle.wasi_session.proofs.run.run_bytes.Goals as goal
 
 pub run_steps-requires : goal.run_steps-requires

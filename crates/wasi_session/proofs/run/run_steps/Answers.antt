@@ -3,7 +3,7 @@ use Rattle.wasi_stdin.specs.Shared.{given_now}
 use Rattle.wasi_script.specs.declared.lines.Line.{Line}
 use Rattle.wasi_reply.specs.Outputs.{output_lines}
 use Rattle.wasi_host.specs.Transcript.{outputs_of}
-use Rattle.wasi_host.specs.lemmas.Steps.{stand_on, names_new, places_step, count_step}
+use Rattle.wasi_host.specs.laws.Steps.{stand_on, names_new, places_step, count_step}
 use Rattle.wasi_session.proofs.LoopFacts.{go_on, at_end}
 use Rattle.wasi_session.proofs.run.run_steps.Goals as goal
 

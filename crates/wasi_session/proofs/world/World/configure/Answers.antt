@@ -1,5 +1,5 @@
 use Rattle.wasi_host.specs.Host.{Host}
-use Rattle.wasi_host.specs.lemmas.Steps.{within}
+use Rattle.wasi_host.specs.laws.Steps.{within}
 use Rattle.wasi_session.proofs.GuestFacts.{configured_done}
 use Rattle.wasi_session.proofs.world.World.configure.Goals as goal
 

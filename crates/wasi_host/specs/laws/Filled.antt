@@ -32,9 +32,9 @@ use Rattle.wasi_host.specs.Calls.{Owner, sent, called}
 use Rattle.wasi_host.specs.Host.{Named, the_rules, Guest, Streams, Host, new_output, taken_out, put_back, output_at, put_output, input_at, put_input, answer_at, answer_to, answer_by, answer_in, answer, guest_of, reply_to, host_after, step_reply, step_host, step_told, given_for, size_read, new_host, host_end}
 use Rattle.wasi_host.specs.Transcript.{outputs_of}
 use Rattle.wasi_host.specs.View.{output_names}
-use Rattle.wasi_host.specs.Laws.{is_declared, Keeps, taken_at, entry_call_on, guest_call_on, step_call_on, TookIf, Fills, FillsAll, OutputFills}
-use Rattle.wasi_host.specs.lemmas.Reach.{found_still, input_apart}
-use Rattle.wasi_host.specs.lemmas.Kept.{outputs_keep}
+use Rattle.wasi_host.specs.Promises.{is_declared, Keeps, taken_at, entry_call_on, guest_call_on, step_call_on, TookIf, Fills, FillsAll, OutputFills}
+use Rattle.wasi_host.specs.laws.Reach.{found_still, input_apart}
+use Rattle.wasi_host.specs.laws.Kept.{outputs_keep}
 
 -- ---- all declared outputs are ones that lines declare
 abbrev AreDeclared : Named OutStream → Type 0

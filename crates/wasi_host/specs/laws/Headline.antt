@@ -23,18 +23,18 @@ use Rattle.wasi_script.specs.Grammar.{AllStand, may_stand, may_set_up, setting_s
 use Rattle.wasi_table.specs.Table.{Held, held_at}
 use Rattle.wasi_reply.specs.declared.reply.Reply.TheVariants as reply
 use Rattle.wasi_reply.specs.Outputs.{output_lines}
-use Rattle.wasi_reply.specs.lemmas.ReplyLines.{are_lines}
+use Rattle.wasi_reply.specs.laws.ReplyLines.{are_lines}
 use Rattle.wasi_host.specs.declared.entry.Entry.{Entry}
 use Rattle.wasi_host.specs.declared.stream.OutStream.{OutStream}
 use Rattle.wasi_host.specs.OutStreams.{taken_of}
 use Rattle.wasi_host.specs.Host.{Named, the_rules, Guest, Host, Answered, configured, new_guest, was_called_in, with_guest, answer, answer_in, names_in, names_of, new_host, given_for, told_for, size_read, turn_told, after_turn, step_reply, step_host, step_told, replies, host_end, told_end}
 use Rattle.wasi_host.specs.Run.{Standing, Sharing, is_shared, Rule, WorkerRule, setting_row, step_bytes, call_bytes, IsRun, at_number, at_start, EndedRule}
 use Rattle.wasi_host.specs.Transcript.{ShowsRun, transcript, told_after_run, outputs_of}
-use Rattle.wasi_host.specs.lemmas.Entries.{IsOwn, own_new}
-use Rattle.wasi_host.specs.lemmas.Shown.{standing_at, standing_in, standing_with, shares_in, capacity_in, ended_in, shown, cond_same, get_set, shown_put, nothing_stands, declare_shown}
-use Rattle.wasi_host.specs.lemmas.GuestCalls.{IsGuest, OwnedBy, owned_put, Next, call_next}
-use Rattle.wasi_host.specs.lemmas.Deliveries.{capture_next, deliver_next}
-use Rattle.wasi_host.specs.lemmas.Steps.{names_step, names_new, places_step, within, first_of, second_of}
+use Rattle.wasi_host.specs.laws.Entries.{IsOwn, own_new}
+use Rattle.wasi_host.specs.laws.Shown.{standing_at, standing_in, standing_with, shares_in, capacity_in, ended_in, shown, cond_same, get_set, shown_put, nothing_stands, declare_shown}
+use Rattle.wasi_host.specs.laws.GuestCalls.{IsGuest, OwnedBy, owned_put, Next, call_next}
+use Rattle.wasi_host.specs.laws.Deliveries.{capture_next, deliver_next}
+use Rattle.wasi_host.specs.laws.Steps.{names_step, names_new, places_step, within, first_of, second_of}
 
 -- a host's guests by their numbers
 abbrev pub guests_of : List (Option Guest) → ℕ → Option Guest

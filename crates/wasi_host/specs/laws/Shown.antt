@@ -14,7 +14,7 @@ use Rattle.wasi_stdin.specs.declared.mode.Mode.TheVariants.{Idle, Asked, Held, F
 use Rattle.wasi_stdin.specs.Shared.{Shared, Met, NothingYet, Handed, AtEnd, IsSound, HoldsIn, CapturedIn, met_in, after_in, reading, told_fault, polling, wait_of, mode_holding}
 use Rattle.wasi_stdin.specs.Shared as stdin
 use Rattle.wasi_table.specs.Table.{Held as Row, held_at, parent_in, next_number, new_table, with_pushed, without}
-use Rattle.wasi_table.specs.Laws.{held-insert, held-remove}
+use Rattle.wasi_table.specs.laws.Kept.{held-insert, held-remove}
 use Rattle.wasi_script.specs.declared.lines.Input.{Input}
 use Rattle.wasi_host.specs.declared.entry.Entry.{Entry}
 use Rattle.wasi_host.specs.declared.entry.Entry.TheVariants as entry

@@ -14,7 +14,7 @@ use Rattle.std.proofs.Math.ListN.{length-set}
 use Rattle.wasi_base.specs.Source.{Told, Given}
 use Rattle.wasi_base.specs.declared.trap_text.TrapText.TheVariants.{ResourceNotPresent, ResourceWrongType, ResourceHasChildren, ResourceTableFull}
 use Rattle.wasi_table.specs.Table.{Held, held_at, entry_in, new_table, live_count, next_number, with_pushed, without, parent_in, has_children}
-use Rattle.wasi_table.specs.Laws.{held-insert, held-remove}
+use Rattle.wasi_table.specs.laws.Kept.{held-insert, held-remove}
 use Rattle.wasi_stdin.specs.Shared.{Shared}
 use Rattle.wasi_script.specs.declared.lines.Input.{Input}
 use Rattle.wasi_script.specs.declared.lines.Input.TheVariants as input
@@ -50,9 +50,9 @@ use Rattle.wasi_host.specs.Calls.{Owner, opened, stream_entry}
 use Rattle.wasi_host.specs.Host.{Named, Guest, left_own, left_guest, Streams, taken_out, put_back, input_at, put_input, output_at, put_output, Host, Rules, the_rules, Answered, guest_of, new_guest, configured, new_host, new_input, new_output, answer_at, answer_to, answer_by, answer_in, answer, given_for, size_read, step_reply, step_host, step_told, reply_by, host_by, replies, host_end}
 use Rattle.wasi_host.specs.Host as host
 use Rattle.wasi_host.specs.Run as run
-use Rattle.wasi_host.specs.Laws.{SeesSame}
+use Rattle.wasi_host.specs.Promises.{SeesSame}
 use Rattle.wasi_host.specs.View.{input_names, output_names, setting_names, line_names, names_by, is_guest, is_other, is_seen, view, shares, IsApart, kept_if, replies_to, replies_seen, outputs_seen, IsAlone}
-use Rattle.wasi_host.specs.lemmas.Reach.{input_apart, output_apart}
+use Rattle.wasi_host.specs.laws.Reach.{input_apart, output_apart}
 
 -- ---- a place in a list
 set_alike : {A : Type 0} (xs ys : List A) (n m : ℕ) (x d : A) → length xs ≡ length ys → get_or xs m d ≡ get_or ys m d → get_or (set xs n x) m d ≡ get_or (set ys n x) m d

@@ -6,7 +6,7 @@ use Rattle.std.specs.FinSet.{FinSet, empty}
 use Rattle.wasi_base.specs.Source.{Told}
 use Rattle.wasi_base.specs.declared.trap_text.TrapText.TheVariants.{ResourceNotPresent, ResourceWrongType, ResourceTableFull}
 use Rattle.wasi_table.specs.Table.{Held, new_table, held_at, entry_in, live_count, next_number, with_pushed}
-use Rattle.wasi_table.specs.Laws.{held-next_number}
+use Rattle.wasi_table.specs.laws.Kept.{held-next_number}
 use Rattle.wasi_stdin.specs.Shared.{Shared, IsSound}
 use Rattle.wasi_script.specs.declared.lines.Input.{Input}
 use Rattle.wasi_script.specs.declared.lines.Input.TheVariants as from
@@ -36,9 +36,9 @@ use Rattle.wasi_host.specs.Calls.{Owner, Doing, doing, opened, asked, called, se
 use Rattle.wasi_host.specs.Host.{Guest, Streams, the_rules, Answered, settled, answer_at, answer_to, answer_by, on_input, on_output, input_at, put_input, output_at, put_output}
 use Rattle.wasi_host.specs.Run.{Standing, Sharing, at_number, without_guest, dropped_by, live_after, left_by, EntryRule, entry_bytes, CallRule, OpenRule, DropRule, EndedRule, call_bytes}
 use Rattle.wasi_host.specs.Run as run
-use Rattle.wasi_host.specs.lemmas.Entries.{IsOwn, own_left, Follows, acts, drops, live_is, live_by}
-use Rattle.wasi_host.specs.lemmas.Shown.{standing_by, standing_at, standing_in, standing_with, shares_in, capacity_in, ended_in, shown, cond_same, with_own, put_alike, put_same, nothing_stands, stands_there, standing_pushed}
-use Rattle.wasi_host.specs.lemmas.SharedCalls.{Called, called_by, Does, none_handed, entry_does, open_does, drop_does}
+use Rattle.wasi_host.specs.laws.Entries.{IsOwn, own_left, Follows, acts, drops, live_is, live_by}
+use Rattle.wasi_host.specs.laws.Shown.{standing_by, standing_at, standing_in, standing_with, shares_in, capacity_in, ended_in, shown, cond_same, with_own, put_alike, put_same, nothing_stands, stands_there, standing_pushed}
+use Rattle.wasi_host.specs.laws.SharedCalls.{Called, called_by, Does, none_handed, entry_does, open_does, drop_does}
 
 -- ---- a deed that is apart from the shared input
 apart_none : (it : Entry) (parent : Option ℕ) → is_shared it ≡ false → standing_by it parent ≡ None

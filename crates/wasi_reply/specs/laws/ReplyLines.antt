@@ -10,8 +10,8 @@ use Rattle.wasi_reply.specs.declared.reply.Reply.TheVariants as reply
 use Rattle.wasi_reply.specs.Field.{fields_text}
 use Rattle.wasi_reply.specs.Lines.{lines_in}
 use Rattle.wasi_reply.specs.Reply.{told_fields, worked_fields, fields_of, text_of, text_of_all}
-use Rattle.wasi_reply.specs.lemmas.FieldTexts.{fields_line}
-use Rattle.wasi_reply.specs.lemmas.Lacking.{Lacks, has, lacking, lacks-append, slice_split-append}
+use Rattle.wasi_reply.specs.laws.FieldTexts.{fields_line}
+use Rattle.wasi_reply.specs.laws.Lacking.{Lacks, has, lacking, lacks-append, slice_split-append}
 
 -- a word holds neither a line's end nor a space
 abbrev pub IsWord : List ℕ → Type 0

@@ -22,7 +22,7 @@ use Rattle.wasi_host.specs.declared.stream.OutStream.TheVariants as stream
 use Rattle.wasi_host.specs.OutStreams.{taken_of, after_output_write, after_output_flush, after_output_poll_write, output_write, output_poll_write}
 use Rattle.wasi_host.specs.Deeds.{Own, act, apart}
 use Rattle.wasi_host.specs.Calls.{Owner, sent, result_told, poll_told, is_done}
-use Rattle.wasi_host.specs.Laws.{Took, TookBy, is_declared, Keeps}
+use Rattle.wasi_host.specs.Promises.{Took, TookBy, is_declared, Keeps}
 
 -- ---- a pipe
 take_within : (room : ℕ) (bytes : List ℕ) → take room bytes ≡ take (min (length bytes) room) bytes

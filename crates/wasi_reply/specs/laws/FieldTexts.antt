@@ -10,7 +10,7 @@ use Rattle.wasi_base.specs.declared.trap_text.TrapText.TheVariants as trap
 use Rattle.wasi_base.specs.IoKind.{kind_name}
 use Rattle.wasi_base.specs.TrapText.{trap_text}
 use Rattle.wasi_reply.specs.Field.{Field, hex_of, field_text, fields_text}
-use Rattle.wasi_reply.specs.lemmas.Lacking.{Lacks, BeginsIfAny, has, lacking, lacks-append, lacks-decimal}
+use Rattle.wasi_reply.specs.laws.Lacking.{Lacks, BeginsIfAny, has, lacking, lacks-append, lacks-decimal}
 
 -- past the sixteen digits stands 0
 lacks-digit : (byte : ℕ) (digits : List ℕ) (n : ℕ) → 0 < byte → Lacks byte digits → get_or digits n 0 ≢ byte

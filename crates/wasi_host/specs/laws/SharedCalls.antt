@@ -10,8 +10,8 @@ use Rattle.std.specs.FinSet.{FinSet}
 use Rattle.wasi_base.specs.declared.trap_text.TrapText.TheVariants.{ResourceNotPresent, ResourceWrongType, ResourceHasChildren, ResourceTableFull}
 use Rattle.wasi_base.specs.Source.{Told}
 use Rattle.wasi_table.specs.Table.{Held as Row, held_at, entry_in, parent_in, live_count, next_number, with_pushed, without, has_children}
-use Rattle.wasi_table.specs.Laws.{held-next_number}
-use Rattle.wasi_table.specs.Children.{Child, child_of, has_child}
+use Rattle.wasi_table.specs.laws.Kept.{held-next_number}
+use Rattle.wasi_table.specs.laws.Children.{Child, child_of, has_child}
 use Rattle.wasi_stdin.specs.declared.mode.Mode.{Mode}
 use Rattle.wasi_stdin.specs.declared.mode.Mode.TheVariants.{Idle, Asked, Held, Failed, Closed}
 use Rattle.wasi_stdin.specs.Shared as stdin
@@ -35,8 +35,8 @@ use Rattle.wasi_host.specs.Calls.{Owner, Doing, doing, mistaken, asked, shared_e
 use Rattle.wasi_host.specs.Host.{Guest}
 use Rattle.wasi_host.specs.Run.{Standing, Sharing, at_number, with_standing, without_standing, after_row, ReadRule, counted, is_over, PollRule, ready_row, after_ready_row, wait_row, WaitedRule, BlockRule, Tells, MakeRule, is_full, HasPollable, EntryRule, entry_bytes, DropRule, OpenRule, opened_standing, OtherRule, held_front, read_row, poll_row, bytes_in, count_in}
 use Rattle.wasi_host.specs.Run as run
-use Rattle.wasi_host.specs.lemmas.Entries.{IsOwn, none_polled, none_pollable}
-use Rattle.wasi_host.specs.lemmas.Shown.{met_bytes, parent_or, standing_by, standing_at, standing_in, capacity_in, shown, cond_same, with_own, put_alike, put_same, stands_there, put_standing, put_none, standing_kept, standing_pushed, standing_dropped, asked_none, row_next}
+use Rattle.wasi_host.specs.laws.Entries.{IsOwn, none_polled, none_pollable}
+use Rattle.wasi_host.specs.laws.Shown.{met_bytes, parent_or, standing_by, standing_at, standing_in, capacity_in, shown, cond_same, with_own, put_alike, put_same, stands_there, put_standing, put_none, standing_kept, standing_pushed, standing_dropped, asked_none, row_next}
 
 counted_is : (it : Reading) → skipped_told (skipped it) ≡ counted (reading_told it)
 counted_is (stdin.Bytes bytes) = refl

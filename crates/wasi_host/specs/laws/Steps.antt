@@ -39,7 +39,7 @@ use Rattle.wasi_host.specs.declared.stream.OutStream.{OutStream}
 use Rattle.wasi_host.specs.Deeds.{entry_at}
 use Rattle.wasi_host.specs.Calls.{Owner, asked}
 use Rattle.wasi_host.specs.Host.{Named, the_rules, Rules, Guest, Streams, configured, put_input, put_output, new_input, new_output, Host, IsStep, new_guest, answer_at, answer_to, answer_by, answer_in, answer, guest_of, was_called_in, names_in, names_of, host_after, step_reply, step_host, step_told, replies, host_end, told_end, delivery_told, after_delivery, after_turn, given_for, told_for, new_host}
-use Rattle.wasi_host.specs.lemmas.Shown.{cond_same, get_set}
+use Rattle.wasi_host.specs.laws.Shown.{cond_same, get_set}
 
 -- over a source that tells, a step is a function of what it tells
 pub record IsToldStep (u : Told) (after : Option Told) (old new : Host) (step : Line) (answer : Reply) : Type 0 where

@@ -13,8 +13,8 @@ use Rattle.wasi_stdin.specs.Shared.{Shared, IsSound, HoldsIn, CapturedIn, captur
 use Rattle.wasi_reply.specs.declared.reply.Worked.{Worked}
 use Rattle.wasi_host.specs.Host.{Guest, captured_told, outcome_told, delivery_told, after_delivery, given_for, told_for}
 use Rattle.wasi_host.specs.Run.{size_captured, CaptureRule, delivery_answer, delivered_row, DeliverRule}
-use Rattle.wasi_host.specs.lemmas.Shown.{shown}
-use Rattle.wasi_host.specs.lemmas.GuestCalls.{OwnedBy, Next}
+use Rattle.wasi_host.specs.laws.Shown.{shown}
+use Rattle.wasi_host.specs.laws.GuestCalls.{OwnedBy, Next}
 
 -- what a read of a source that tells gives, and what it leaves
 pub given_left : (plan : List Plan) (left : List ℕ) (r : ℕ) → left ≡ held_given (given_by plan left r) ++ (told_by plan left r).left

@@ -9,9 +9,9 @@ use Rattle.std.specs.FinSet.{FinSet, empty, contains, insert, remove, len, conta
 use Rattle.wasi_base.specs.declared.trap_text.TrapText.TheVariants.{ResourceWrongType, ResourceHasChildren, ResourceTableFull}
 use Rattle.wasi_table.specs.declared.error.TableError.TheVariants.{Full}
 use Rattle.wasi_table.specs.Table.{Held, held_at, is_live, live_count, new_table, next_number, with_pushed, without, push_refusal, parent_in, entry_in, has_children}
-use Rattle.wasi_table.specs.Children.{has_child}
+use Rattle.wasi_table.specs.laws.Children.{has_child}
 use Rattle.wasi_table.specs.Sound.{IsTable}
-use Rattle.wasi_table.specs.Laws.{held-insert, held-remove, held-next_number, is_eq-nat_cmp, live_count-pushed, new_table-IsTable, pushed-IsTable, without-IsTable, with_entry-IsTable}
+use Rattle.wasi_table.specs.laws.Kept.{held-insert, held-remove, held-next_number, is_eq-nat_cmp, live_count-pushed, new_table-IsTable, pushed-IsTable, without-IsTable, with_entry-IsTable}
 use Rattle.wasi_script.specs.declared.lines.Call.{Call}
 use Rattle.wasi_script.specs.declared.lines.Call.TheVariants as call
 use Rattle.wasi_reply.specs.declared.reply.Told.{Told}
