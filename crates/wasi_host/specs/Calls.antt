@@ -1,6 +1,6 @@
 -- What each call asks to be done, and what it leaves of what its entry is on: a rule of its own for each kind of entry.
 -- A rule sees no more than what its entry is on, and none gives back its guest's settings.
-use Rattle.std.specs.Prelude.{ℕ, Bool, true, List, Option, Some, None, Result, Ok, Err}
+use Rattle.std.specs.Prelude.{ℕ, true, Some, None, Result, Ok, Err}
 use Rattle.wasi_base.specs.declared.polled.Polled.{Polled as Poll}
 use Rattle.wasi_base.specs.declared.polled.Polled.TheVariants as polled
 use Rattle.wasi_base.specs.declared.stream_error.StreamError.{StreamError}

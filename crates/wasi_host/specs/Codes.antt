@@ -1,5 +1,5 @@
 -- How a host is told apart from others, from its parts.
-use Rattle.std.specs.Prelude.{◌≡◌, ℕ, Bool, Option, List, refl}
+use Rattle.std.specs.Prelude.{Bool, Option, List, refl}
 use Rattle.std.specs.Coded.{Coded, code_by, coded×, coded_ℕ, coded_bool, coded_list, coded_option}
 use Rattle.wasi_table.specs.Table.{Table, table_code}
 use Rattle.wasi_stdin.specs.Shared.{Shared}

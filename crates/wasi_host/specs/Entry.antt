@@ -2,7 +2,6 @@
 use Rattle.std.specs.Prelude.{ℕ}
 use Rattle.wasi_script.specs.declared.lines.Standard.{Standard}
 use Rattle.wasi_script.specs.declared.lines.Standard.TheVariants as standard
-use Rattle.wasi_host.specs.declared.entry.SharedEntry.{SharedEntry}
 use Rattle.wasi_host.specs.declared.entry.SharedEntry.TheVariants as shared
 use Rattle.wasi_host.specs.declared.entry.StreamEntry.{StreamEntry}
 use Rattle.wasi_host.specs.declared.entry.StreamEntry.TheVariants as stream

@@ -1,5 +1,6 @@
 -- The laws on sessions, each the contract of a function of its own.
-use Rattle.std.specs.Prelude.{◌≡◌, ℕ, Bool, true, false, cond, is_some, ◌⊎◌, List, [], ◌∷◌, ◌++◌, map, length, take, Option, Some, None}
+use Rattle.std.specs.Prelude.{◌≡◌, ℕ, Bool, true, false, cond, is_some, ◌⊎◌, List, [], ◌∷◌, ◌++◌, take, Option, Some, None}
+use Rattle.std.specs.List.{AllByRecursion}
 use Rattle.std.specs.Map.{lookup}
 use Rattle.std.specs.Option.{option_map, option_and_then}
 use Rattle.std.specs.Str.{bytes_eq}
@@ -17,6 +18,7 @@ use Rattle.wasi_reply.specs.declared.reply.Told.{Told}
 use Rattle.wasi_reply.specs.declared.reply.Told.TheVariants as told
 use Rattle.wasi_reply.specs.declared.reply.Reply.{Reply}
 use Rattle.wasi_reply.specs.declared.reply.Reply.TheVariants as reply
+use Rattle.wasi_reply.specs.Reply.{IsReply}
 use Rattle.wasi_host.specs.declared.entry.Entry.{Entry}
 use Rattle.wasi_host.specs.declared.entry.Entry.TheVariants as entry
 use Rattle.wasi_host.specs.declared.entry.StreamEntry.{StreamEntry}
@@ -28,12 +30,17 @@ use Rattle.wasi_host.specs.declared.stream.OutStream.TheVariants as out_stream
 use Rattle.wasi_host.specs.OutStreams.{taken_of}
 use Rattle.wasi_host.specs.Deeds.{Own, entry_at, act, apart}
 use Rattle.wasi_host.specs.Calls.{Settings, Owner, sent}
-use Rattle.wasi_host.specs.Host.{Guest, Host, Rules, host_end, new_host, step_reply, step_host, step_told, guest_of, called_in, Named, taken_out, put_back, input_at, put_input, output_at, put_output, Streams, answer_at}
+use Rattle.wasi_host.specs.Host.{Guest, Host, Rules, host_end, new_host, step_reply, step_host, step_told, guest_of, called_in, Named, taken_out, put_back}
 use Rattle.wasi_host.specs.View.{input_names, output_names, view, IsApart, replies_seen, outputs_seen, GuestsAreAlone}
 use Rattle.wasi_host.specs.Transcript.{ShowsRun, transcript, told_after_run, outputs_of}
 
 abbrev pub HostRuns : Type 0
 HostRuns = (steps : List Line) (told : Told') → AllStand no_names steps → ShowsRun steps told (told_after_run steps told) (transcript steps told)
+
+-- two runs of the same steps that one transcript shows have the same replies: their numbers fit 64 bits and their bytes
+-- are bytes, as those of every reply of the code
+abbrev pub TranscriptsFixRuns : Type 0
+TranscriptsFixRuns = (steps : List Line) (text : List ℕ) (before after before' after' : Told') (one : ShowsRun steps before after text) (two : ShowsRun steps before' after' text) → AllByRecursion IsReply one.answers → AllByRecursion IsReply two.answers → one.answers ≡ two.answers
 
 -- ---- what a call reaches
 -- whether a call is on an input of this name, on an output of it, and on the shared input, by the entry at its number

@@ -1,5 +1,7 @@
 -- The whole transcript of a session over a source that tells, and the run that it shows.
 use Rattle.std.specs.Prelude.{◌≡◌, ℕ, List, ◌++◌, map, take, drop, Option, Some}
+use Rattle.std.specs.List.{IsDistinct}
+use Rattle.std.specs.Str.{bytes_eq}
 use Rattle.wasi_base.specs.Source.{Told}
 use Rattle.wasi_base.specs.Sink.{with_more}
 use Rattle.wasi_script.specs.declared.lines.Line.{Line}
@@ -25,7 +27,7 @@ abbrev pub told_after_run : List Line → Told → Told
 told_after_run steps told = told_end steps new_host told
 
 -- The text is that of one run on the shared input: the run's replies, a line each, so that they are fixed by it, and
--- then the declared outputs. All bytes that its guests were handed or skipped, in order, and then those that are held
+-- then the declared outputs, each once. All bytes that its guests were handed or skipped, in order, and then those that are held
 -- are what the input gave, and the source is left as the run's deliveries left it.
 pub record ShowsRun (steps : List Line) (before after : Told) (text : List ℕ) : Type 0 where
   pub answers : List Reply
@@ -34,6 +36,7 @@ pub record ShowsRun (steps : List Line) (before after : Told) (text : List ℕ) 
   pub run : IsRun before.left (at_start before) steps answers bytes last
   pub outputs : List (List ℕ × List ℕ)
   pub declared : map (λ output. output.0) outputs ≡ (names_end no_names steps).outputs
+  pub distinct : IsDistinct bytes_eq (map (λ output. output.0) outputs)
   pub text_is : text ≡ text_of_all answers ++ output_lines outputs
   pub lines_are : lines_in text ≡ map text_of answers ++ lines_in (output_lines outputs)
   pub told_is : last.told ≡ after

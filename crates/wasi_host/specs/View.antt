@@ -1,6 +1,6 @@
 -- What a guest sees of a session, and that its replies and its outputs depend on that alone.
-use Rattle.std.specs.Prelude.{◌≡◌, ℕ, Bool, true, false, cond, not, ◌&&◌, nat_eq, List, [], ◌∷◌, map, filter, Option, Some, None}
-use Rattle.std.specs.List.{list_any, list_all}
+use Rattle.std.specs.Prelude.{◌≡◌, ℕ, Bool, true, false, not, ◌&&◌, nat_eq, List, [], ◌∷◌, map, filter}
+use Rattle.std.specs.List.{list_any}
 use Rattle.std.specs.Str.{bytes_eq}
 use Rattle.wasi_base.specs.Source.{Told}
 use Rattle.wasi_script.specs.declared.lines.Input.{Input}
@@ -13,7 +13,7 @@ use Rattle.wasi_script.specs.declared.lines.Line.{Line}
 use Rattle.wasi_script.specs.declared.lines.Line.TheVariants as line
 use Rattle.wasi_reply.specs.declared.reply.Reply.{Reply}
 use Rattle.wasi_host.specs.OutStreams.{taken_of}
-use Rattle.wasi_host.specs.Host.{Host, new_host, replies, host_end}
+use Rattle.wasi_host.specs.Host.{new_host, replies, host_end}
 use Rattle.wasi_host.specs.Run.{is_shared}
 
 -- ---- the names that a guest's configuration lines name, a replaced one too

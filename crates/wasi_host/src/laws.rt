@@ -1,10 +1,19 @@
-ghost use Rattle.wasi_host.specs.Promises.{HostRuns, CallsStayInReach, InputsArePutBack, OutputsArePutBack, GuestsAreIsolated, EachIsAlone, OutputsKeep, OutputsFill};
+ghost use Rattle.wasi_host.specs.Promises.{HostRuns, CallsStayInReach, InputsArePutBack, OutputsArePutBack, GuestsAreIsolated, EachIsAlone, OutputsKeep, OutputsFill, TranscriptsFixRuns};
+
+use wasi_reply::lines_fix_replies;
 
 /// A law: over a source that tells, what the host replies to the steps of a valid script is a run
 /// of the rules on the shared input, which its text shows.
 pub fn a_run_of_the_host()
     ensures { HostRuns }
 {}
+
+/// A law: two runs of the same steps that one transcript shows have the same replies.
+pub fn transcripts_fix_runs()
+    ensures { TranscriptsFixRuns }
+{
+    lines_fix_replies();
+}
 
 /// A law, for every call and whatever the rules of calls are: a call leaves the other guests, its
 /// own guest's settings, each stream but the one that it is on, and the shared input unless it is

@@ -10,7 +10,6 @@ use Rattle.wasi_base.specs.Source as given
 use Rattle.wasi_stdin.specs.declared.mode.Mode.{Mode}
 use Rattle.wasi_stdin.specs.declared.mode.Mode.TheVariants.{Idle, Asked, Held, Failed, Closed}
 use Rattle.wasi_stdin.specs.Shared.{Shared, IsSound, HoldsIn, CapturedIn, capture_at, capture_of, captured_by, after_capture, outcome_of, mode_given, held_given, delivered}
-use Rattle.wasi_reply.specs.declared.reply.Worked.{Worked}
 use Rattle.wasi_host.specs.Host.{Guest, captured_told, outcome_told, delivery_told, after_delivery, given_for, told_for}
 use Rattle.wasi_host.specs.Run.{size_captured, CaptureRule, delivery_answer, delivered_row, DeliverRule}
 use Rattle.wasi_host.specs.laws.Shown.{shown}

@@ -1,13 +1,12 @@
 -- Over a whole run each output has what the writes that went there added, in order.
 use Rattle.std.proofs.Common.{◌≡◌, ℕ, Bool, true, false, cond, List, [], ◌∷◌, ◌++◌, Option, Some, None, refl, ap, ◌∙◌, sym, subst, true≢false, inl, inr}
-use Rattle.std.specs.Prelude.{is_some, ◌⊎◌, unwrap_or, map}
+use Rattle.std.specs.Prelude.{is_some, unwrap_or, map}
 use Rattle.std.specs.Map.{lookup, set_value}
 use Rattle.std.specs.Option.{option_map, option_and_then}
 use Rattle.std.specs.Str.{bytes_eq}
 use Rattle.std.proofs.lemmas.Slice.Eq.{bytes_eq-Decides}
 use Rattle.wasi_base.specs.Source.{Told, Given}
 use Rattle.wasi_stdin.specs.Shared.{Shared}
-use Rattle.wasi_script.specs.declared.lines.Input.{Input}
 use Rattle.wasi_script.specs.declared.lines.Output.{Output}
 use Rattle.wasi_script.specs.declared.lines.Output.TheVariants as output
 use Rattle.wasi_script.specs.declared.lines.OutputDeclaration.{OutputDeclaration}
@@ -29,10 +28,9 @@ use Rattle.wasi_host.specs.declared.stream.OutStream.TheVariants as stream
 use Rattle.wasi_host.specs.OutStreams.{taken_of}
 use Rattle.wasi_host.specs.Deeds.{Own, entry_at, act, apart}
 use Rattle.wasi_host.specs.Calls.{Owner, sent, called}
-use Rattle.wasi_host.specs.Host.{Named, the_rules, Guest, Streams, Host, new_output, taken_out, put_back, output_at, put_output, input_at, put_input, answer_at, answer_to, answer_by, answer_in, answer, guest_of, reply_to, host_after, step_reply, step_host, step_told, given_for, size_read, new_host, host_end}
-use Rattle.wasi_host.specs.Transcript.{outputs_of}
+use Rattle.wasi_host.specs.Host.{Named, the_rules, Guest, Streams, Host, new_output, taken_out, put_back, output_at, put_output, input_at, answer_at, answer_to, answer_by, answer_in, answer, guest_of, reply_to, host_after, step_host, step_told, given_for, size_read, new_host, host_end}
 use Rattle.wasi_host.specs.View.{output_names}
-use Rattle.wasi_host.specs.Promises.{is_declared, Keeps, taken_at, entry_call_on, guest_call_on, step_call_on, TookIf, Fills, FillsAll, OutputFills}
+use Rattle.wasi_host.specs.Promises.{is_declared, entry_call_on, guest_call_on, step_call_on, Fills, FillsAll, OutputFills}
 use Rattle.wasi_host.specs.laws.Reach.{found_still, input_apart}
 use Rattle.wasi_host.specs.laws.Kept.{outputs_keep}
 
@@ -143,7 +141,7 @@ module _ (name : List ℕ) (it : EntryCall) (which : Standard) (at : Owner) (e :
       let s = taken_out stream.Closed n outputs in
       let same_name : n ≡ name = (bytes_eq-Decides n name).0 is in
       let there : Fills (Some (it, e)) (told s) (taken_in n outputs) (taken_in n (put_back n (left s) outputs)) =
-          subst (λ o. Fills (Some (it, e)) (told s) (taken_in n outputs) (option_map taken_of o)) (sym (set_found (bytes_eq n) outputs (left s))) (found_fills (lookup (bytes_eq n) outputs) (λ s found. found_declared (bytes_eq n) outputs s are found)) in
+      subst (λ o. Fills (Some (it, e)) (told s) (taken_in n outputs) (option_map taken_of o)) (sym (set_found (bytes_eq n) outputs (left s))) (found_fills (lookup (bytes_eq n) outputs) (λ s found. found_declared (bytes_eq n) outputs s are found)) in
       record {
         are = found_left n outputs (lookup (bytes_eq n) outputs) refl are;
         fills = subst (λ (m : List ℕ). Fills (Some (it, e)) (told s) (taken_in m outputs) (taken_in m (put_back n (left s) outputs))) same_name there;

@@ -10,7 +10,6 @@ use Rattle.wasi_table.specs.laws.Kept.{held-next_number}
 use Rattle.wasi_stdin.specs.Shared.{Shared, IsSound}
 use Rattle.wasi_script.specs.declared.lines.Input.{Input}
 use Rattle.wasi_script.specs.declared.lines.Input.TheVariants as from
-use Rattle.wasi_script.specs.declared.lines.Output.{Output}
 use Rattle.wasi_script.specs.declared.lines.Standard.{Standard}
 use Rattle.wasi_script.specs.declared.lines.Standard.TheVariants as standard
 use Rattle.wasi_script.specs.declared.lines.Access.{Access}
@@ -18,7 +17,6 @@ use Rattle.wasi_script.specs.declared.lines.EntryCall.{EntryCall}
 use Rattle.wasi_script.specs.declared.lines.OwnCall.{OwnCall}
 use Rattle.wasi_script.specs.declared.lines.Call.{Call}
 use Rattle.wasi_script.specs.declared.lines.Call.TheVariants as call
-use Rattle.wasi_reply.specs.declared.reply.Told.{Told as Answer}
 use Rattle.wasi_reply.specs.declared.reply.Told.TheVariants as tell
 use Rattle.wasi_reply.specs.declared.reply.Reply.{Reply}
 use Rattle.wasi_reply.specs.declared.reply.Reply.TheVariants as reply
@@ -31,12 +29,12 @@ use Rattle.wasi_host.specs.declared.stream.InStream.{InStream}
 use Rattle.wasi_host.specs.declared.stream.OutStream.{OutStream}
 use Rattle.wasi_host.specs.declared.deed.Deed.{Deed}
 use Rattle.wasi_host.specs.declared.deed.Deed.TheVariants.{Tell, Make, Change}
-use Rattle.wasi_host.specs.Deeds.{Own, Done, trapped, entry_at, may_make, may_change, made, with_kept, act, dropped, dropped_at, is_shared, apart}
-use Rattle.wasi_host.specs.Calls.{Owner, Doing, doing, opened, asked, called, sent, owned as own_deed, shared_entry, stream_entry}
-use Rattle.wasi_host.specs.Host.{Guest, Streams, the_rules, Answered, settled, answer_at, answer_to, answer_by, on_input, on_output, input_at, put_input, output_at, put_output}
+use Rattle.wasi_host.specs.Deeds.{Own, Done, trapped, entry_at, may_make, may_change, made, with_kept, act, dropped, is_shared, apart}
+use Rattle.wasi_host.specs.Calls.{Doing, doing, opened, asked, called, sent, owned as own_deed, shared_entry, stream_entry}
+use Rattle.wasi_host.specs.Host.{Guest, Streams, the_rules, Answered, settled, answer_at, answer_to, answer_by, input_at, put_input, output_at, put_output}
 use Rattle.wasi_host.specs.Run.{Standing, Sharing, at_number, without_guest, dropped_by, live_after, left_by, EntryRule, entry_bytes, CallRule, OpenRule, DropRule, EndedRule, call_bytes}
 use Rattle.wasi_host.specs.Run as run
-use Rattle.wasi_host.specs.laws.Entries.{IsOwn, own_left, Follows, acts, drops, live_is, live_by}
+use Rattle.wasi_host.specs.laws.Entries.{IsOwn, own_left, Follows, acts, drops, live_is}
 use Rattle.wasi_host.specs.laws.Shown.{standing_by, standing_at, standing_in, standing_with, shares_in, capacity_in, ended_in, shown, cond_same, with_own, put_alike, put_same, nothing_stands, stands_there, standing_pushed}
 use Rattle.wasi_host.specs.laws.SharedCalls.{Called, called_by, Does, none_handed, entry_does, open_does, drop_does}
 

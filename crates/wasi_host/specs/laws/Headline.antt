@@ -1,12 +1,13 @@
 -- The host's run is a run of the rules on the shared input.
 use Rattle.std.proofs.Common.{◌≡◌, ℕ, zero, suc, ◌+◌, ◌-◌, ◌<◌, ◌≤◌, Bool, true, false, List, [], ◌∷◌, ◌++◌, length, get_or, set, take, drop, Option, Some, None, refl, ap, arith, ◌∙◌, sym, subst, true≢false, append-nil, append_assoc}
-use Rattle.std.specs.Prelude.{is_some, replicate, nat_le, not, ◌&&◌, map}
+use Rattle.std.specs.Prelude.{is_some, replicate, nat_le, not, map}
 use Rattle.std.specs.Option.{option_map}
+use Rattle.std.specs.List.{IsDistinct}
+use Rattle.std.specs.Str.{bytes_eq}
 use Rattle.std.specs.Ordering.{nat_cmp}
 use Rattle.std.specs.FinSet.{FinSet, empty, contains, contains-empty}
 use Rattle.std.proofs.lemmas.Bool.Decides.{nat_tests}
 use Rattle.std.proofs.lemmas.Grind.{common_steps}
-use Rattle.std.proofs.Math.ListN.{length-set}
 use Rattle.std.proofs.Math.Seq.{drop-append-add, drop-append_seam}
 use Rattle.wasi_base.specs.Source.{Told, Given}
 use Rattle.wasi_base.specs.Source as given
@@ -20,14 +21,14 @@ use Rattle.wasi_script.specs.declared.lines.WorkerTurn.TheVariants as turn
 use Rattle.wasi_script.specs.declared.lines.Line.{Line}
 use Rattle.wasi_script.specs.declared.lines.Line.TheVariants as line
 use Rattle.wasi_script.specs.Grammar.{AllStand, may_stand, may_set_up, setting_stands, no_names, Names, names_end}
+use Rattle.wasi_script.specs.laws.Distinct.{declared_names_distinct}
 use Rattle.wasi_table.specs.Table.{Held, held_at}
-use Rattle.wasi_reply.specs.declared.reply.Reply.TheVariants as reply
 use Rattle.wasi_reply.specs.Outputs.{output_lines}
 use Rattle.wasi_reply.specs.laws.ReplyLines.{are_lines}
 use Rattle.wasi_host.specs.declared.entry.Entry.{Entry}
 use Rattle.wasi_host.specs.declared.stream.OutStream.{OutStream}
 use Rattle.wasi_host.specs.OutStreams.{taken_of}
-use Rattle.wasi_host.specs.Host.{Named, the_rules, Guest, Host, Answered, configured, new_guest, was_called_in, with_guest, answer, answer_in, names_in, names_of, new_host, given_for, told_for, size_read, turn_told, after_turn, step_reply, step_host, step_told, replies, host_end, told_end}
+use Rattle.wasi_host.specs.Host.{Named, the_rules, Guest, Host, Answered, configured, new_guest, was_called_in, answer, answer_in, names_in, names_of, new_host, given_for, told_for, size_read, turn_told, after_turn, step_reply, step_host, step_told, replies, host_end, told_end}
 use Rattle.wasi_host.specs.Run.{Standing, Sharing, is_shared, Rule, WorkerRule, setting_row, step_bytes, call_bytes, IsRun, at_number, at_start, EndedRule}
 use Rattle.wasi_host.specs.Transcript.{ShowsRun, transcript, told_after_run, outputs_of}
 use Rattle.wasi_host.specs.laws.Entries.{IsOwn, own_new}
@@ -260,6 +261,7 @@ headline steps told stand =
     let at = ran.last in
     let end = host_end steps new_host told in
     let held = take (length at.front + length end.shared.held - length at.front) (drop (length at.front) told.left) in
+    let declared = output_names_of end.streams.outputs ∙ ap (λ (names : Names). names.outputs) (ran.names ∙ ap (λ names. names_end names steps) names_new) in
     let front : at.front ≡ ran.bytes = ran.front_is ∙ ap (λ front. front ++ ran.bytes) (front_new told) in
     record {
       answers = replies steps new_host told;
@@ -267,7 +269,8 @@ headline steps told stand =
       last = sharing told.left end (told_end steps new_host told) at;
       run = subst (λ start. IsRun told.left start steps (replies steps new_host told) ran.bytes (sharing told.left end (told_end steps new_host told) at)) (shown_new told) ran.run;
       outputs = outputs_of end.streams;
-      declared = output_names_of end.streams.outputs ∙ ap (λ (names : Names). names.outputs) (ran.names ∙ ap (λ names. names_end names steps) names_new);
+      declared = declared;
+      distinct = subst (IsDistinct bytes_eq) (sym declared) (declared_names_distinct steps stand).outputs;
       text_is = refl;
       lines_are = are_lines (replies steps new_host told) (output_lines (outputs_of end.streams));
       told_is = refl;

@@ -1,14 +1,14 @@
 -- A guest's replies and outputs depend on its view alone. No rule is opened.
 use Rattle.std.proofs.lemmas.Bool.Decides.{nat_tests}
 use Rattle.std.proofs.Common.{◌≡◌, ℕ, zero, suc, arith, Bool, true, false, cond, List, [], ◌∷◌, ◌++◌, length, get_or, set, Option, Some, None, refl, ap, sym, ◌∙◌, subst, true≢false}
-use Rattle.std.specs.Prelude.{eqb, nat_eq, not, ◌&&◌, ◌||◌, replicate, unwrap_or, is_some, filter, map}
+use Rattle.std.specs.Prelude.{eqb, nat_eq, not, ◌&&◌, ◌||◌, replicate, unwrap_or, filter, map}
 use Rattle.std.specs.List.{list_any}
-use Rattle.std.specs.Map.{lookup, set_value}
+use Rattle.std.specs.Map.{lookup}
 use Rattle.std.specs.Ordering.{nat_cmp}
 use Rattle.std.specs.FinMap as finmap
 use Rattle.std.specs.Option.{option_map}
 use Rattle.std.specs.Str.{bytes_eq}
-use Rattle.std.proofs.lemmas.Bool.{eqb-true, eq-eqb, false_from_ne_true}
+use Rattle.std.proofs.lemmas.Bool.{eqb-true}
 use Rattle.std.proofs.lemmas.Slice.Eq.{bytes_eq-Decides}
 use Rattle.std.proofs.Math.ListN.{length-set}
 use Rattle.wasi_base.specs.Source.{Told, Given}
@@ -46,13 +46,12 @@ use Rattle.wasi_host.specs.declared.deed.Deed.{Deed}
 use Rattle.wasi_host.specs.declared.deed.Deed.TheVariants.{Tell, Make, Change}
 use Rattle.wasi_host.specs.OutStreams.{taken_of}
 use Rattle.wasi_host.specs.Deeds.{Own, Done, trapped, entry_at, may_make, may_change, made, with_kept, act, dropped, dropped_at, is_shared, apart}
-use Rattle.wasi_host.specs.Calls.{Owner, opened, stream_entry}
+use Rattle.wasi_host.specs.Calls.{Owner, opened}
 use Rattle.wasi_host.specs.Host.{Named, Guest, left_own, left_guest, Streams, taken_out, put_back, input_at, put_input, output_at, put_output, Host, Rules, the_rules, Answered, guest_of, new_guest, configured, new_host, new_input, new_output, answer_at, answer_to, answer_by, answer_in, answer, given_for, size_read, step_reply, step_host, step_told, reply_by, host_by, replies, host_end}
 use Rattle.wasi_host.specs.Host as host
 use Rattle.wasi_host.specs.Run as run
 use Rattle.wasi_host.specs.Promises.{SeesSame}
-use Rattle.wasi_host.specs.View.{input_names, output_names, setting_names, line_names, names_by, is_guest, is_other, is_seen, view, shares, IsApart, kept_if, replies_to, replies_seen, outputs_seen, IsAlone}
-use Rattle.wasi_host.specs.laws.Reach.{input_apart, output_apart}
+use Rattle.wasi_host.specs.View.{input_names, output_names, setting_names, line_names, names_by, is_guest, is_other, is_seen, view, shares, IsApart, kept_if, replies_to, outputs_seen, IsAlone}
 
 -- ---- a place in a list
 set_alike : {A : Type 0} (xs ys : List A) (n m : ℕ) (x d : A) → length xs ≡ length ys → get_or xs m d ≡ get_or ys m d → get_or (set xs n x) m d ≡ get_or (set ys n x) m d
@@ -394,7 +393,7 @@ module _ (rules : Rules) (mine : List ℕ → Bool) (g : ℕ) where
       record {
         reply = told.reply ∙ ap (λ (it : Answered). it.reply) same;
         alike = puts one two k (Some done.guest) (Some there.guest) done.shared there.shared done.streams there.streams (ap Some (told.guest ∙ ap (λ (it : Answered). it.guest) same))
-          (record { inputs = told.streams.inputs ∙ ap (λ (it : Answered). kept mine it.streams.inputs) same; outputs = told.streams.outputs ∙ ap (λ (it : Answered). kept mine it.streams.outputs) same }) alike;
+            (record { inputs = told.streams.inputs ∙ ap (λ (it : Answered). kept mine it.streams.inputs) same; outputs = told.streams.outputs ∙ ap (λ (it : Answered). kept mine it.streams.outputs) same }) alike;
       }
   seen (line.Worker it) one two given given' fits alike e = absurd (true≢false (sym e))
 
@@ -537,9 +536,10 @@ module _ (mine : List ℕ → Bool) (g : ℕ) where
 
   lines_named : (steps : List Line) → ((name : List ℕ) → names_by (is_guest g) steps name ≡ true → mine name ≡ true) → ((name : List ℕ) → names_by (is_other g) steps name ≡ true → mine name ≡ false) → list_any (shares g) steps ≡ false → LinesApart mine g steps
   lines_named [] own other unshared = tt
-  lines_named (step ∷ steps) own other unshared =
-      (line_named step (λ name e. own name (or_left (line_names (is_guest g) step name) (names_by (is_guest g) steps name) e)) (λ name e. other name (or_left (line_names (is_other g) step name) (names_by (is_other g) steps name) e)) (left_false (shares g step) (list_any (shares g) steps) unshared),
-      lines_named steps (λ name e. own name (or_right (line_names (is_guest g) step name) (names_by (is_guest g) steps name) e)) (λ name e. other name (or_right (line_names (is_other g) step name) (names_by (is_other g) steps name) e)) (right_false (shares g step) (list_any (shares g) steps) unshared))
+  lines_named (step ∷ steps) own other unshared = (
+    line_named step (λ name e. own name (or_left (line_names (is_guest g) step name) (names_by (is_guest g) steps name) e)) (λ name e. other name (or_left (line_names (is_other g) step name) (names_by (is_other g) steps name) e)) (left_false (shares g step) (list_any (shares g) steps) unshared),
+    lines_named steps (λ name e. own name (or_right (line_names (is_guest g) step name) (names_by (is_guest g) steps name) e)) (λ name e. other name (or_right (line_names (is_other g) step name) (names_by (is_other g) steps name) e)) (right_false (shares g step) (list_any (shares g) steps) unshared),
+  )
 
   -- a line that the guest does not see names nothing of its own
   unseen_names : (step : Line) (name : List ℕ) → is_seen mine g step ≡ false → line_names (is_guest g) step name ≡ false

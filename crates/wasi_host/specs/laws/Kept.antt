@@ -1,5 +1,5 @@
 -- An output keeps what it took: a write that is done adds all its bytes, any other a first part, and no other call adds.
-use Rattle.std.proofs.Common.{◌≡◌, ◌≤◌, ℕ, Bool, true, false, cond, List, [], ◌∷◌, ◌++◌, length, take, Some, Result, Ok, Err, refl, ap, sym, subst, arith, append-nil, true≢false}
+use Rattle.std.proofs.Common.{◌≡◌, ℕ, Bool, true, false, List, [], ◌∷◌, ◌++◌, length, take, Result, Ok, Err, refl, ap, sym, arith, append-nil, true≢false}
 use Rattle.std.specs.Prelude.{nat_lt, if◌then◌else◌, min}
 use Rattle.std.proofs.lemmas.Grind.{common_steps}
 use Rattle.wasi_base.specs.declared.io_kind.IoKind.{IoKind}
@@ -22,7 +22,7 @@ use Rattle.wasi_host.specs.declared.stream.OutStream.TheVariants as stream
 use Rattle.wasi_host.specs.OutStreams.{taken_of, after_output_write, after_output_flush, after_output_poll_write, output_write, output_poll_write}
 use Rattle.wasi_host.specs.Deeds.{Own, act, apart}
 use Rattle.wasi_host.specs.Calls.{Owner, sent, result_told, poll_told, is_done}
-use Rattle.wasi_host.specs.Promises.{Took, TookBy, is_declared, Keeps}
+use Rattle.wasi_host.specs.Promises.{Took, is_declared, Keeps}
 
 -- ---- a pipe
 take_within : (room : ℕ) (bytes : List ℕ) → take room bytes ≡ take (min (length bytes) room) bytes

@@ -22,7 +22,7 @@ use Rattle.wasi_host.specs.declared.stream.InStream.{InStream}
 use Rattle.wasi_host.specs.declared.stream.OutStream.{OutStream}
 use Rattle.wasi_host.specs.Deeds.{entry_at}
 use Rattle.wasi_host.specs.Calls.{Owner, Settings}
-use Rattle.wasi_host.specs.Host.{Named, Guest, Streams, Host, Rules, Answered, taken_out, put_back, input_at, put_input, output_at, put_output, guest_of, answer_at, answer_to, answer_by, answer_in, answer, called_in}
+use Rattle.wasi_host.specs.Host.{Named, Guest, Streams, Host, Rules, Answered, put_back, input_at, put_input, output_at, put_output, guest_of, answer_at, answer_to, answer_by, answer_in, answer, called_in}
 use Rattle.wasi_host.specs.View.{input_names, output_names}
 use Rattle.wasi_host.specs.Promises.{entry_of, is_on_input, is_on_output, is_on_shared, InReach, PutsBack}
 use Rattle.wasi_host.specs.laws.Shown.{get_set}

@@ -1,6 +1,6 @@
 -- A call on an entry of the shared input follows its rule: one lemma a row of that input's table.
 use Rattle.std.proofs.Common.{◌≡◌, ℕ, zero, suc, Bool, true, false, cond, not, List, [], ◌++◌, length, take, drop, append-nil, arith, Option, Some, None, refl, ap, ◌∙◌, sym, subst, true≢false}
-use Rattle.std.specs.Prelude.{eqb, nat_eq, nat_lt, is_some}
+use Rattle.std.specs.Prelude.{nat_eq, nat_lt, is_some}
 use Rattle.std.proofs.Common.{inl, inr}
 use Rattle.std.proofs.lemmas.Grind.{common_steps}
 use Rattle.wasi_base.specs.declared.io_kind.IoKind.{IoKind}
@@ -29,9 +29,9 @@ use Rattle.wasi_host.specs.declared.entry.Entry.TheVariants as entry
 use Rattle.wasi_host.specs.declared.entry.SharedEntry.{SharedEntry}
 use Rattle.wasi_host.specs.declared.entry.SharedEntry.TheVariants as on
 use Rattle.wasi_host.specs.declared.entry.StreamEntry.TheVariants as stream
-use Rattle.wasi_host.specs.declared.deed.Deed.TheVariants.{Tell, Make, Change}
-use Rattle.wasi_host.specs.Deeds.{Own, Done, only_told, trapped, entry_at, made, with_kept, stands_alone, goes_under, may_make, may_change, act, dropped_at}
-use Rattle.wasi_host.specs.Calls.{Owner, Doing, doing, mistaken, asked, shared_entry, reading_told, skipped_told, polling_told}
+use Rattle.wasi_host.specs.declared.deed.Deed.TheVariants.{Make, Change}
+use Rattle.wasi_host.specs.Deeds.{Own, Done, trapped, entry_at, made, with_kept, goes_under, may_make, may_change, act, dropped_at}
+use Rattle.wasi_host.specs.Calls.{Doing, doing, asked, shared_entry, reading_told, skipped_told, polling_told}
 use Rattle.wasi_host.specs.Host.{Guest}
 use Rattle.wasi_host.specs.Run.{Standing, Sharing, at_number, with_standing, without_standing, after_row, ReadRule, counted, is_over, PollRule, ready_row, after_ready_row, wait_row, WaitedRule, BlockRule, Tells, MakeRule, is_full, HasPollable, EntryRule, entry_bytes, DropRule, OpenRule, opened_standing, OtherRule, held_front, read_row, poll_row, bytes_in, count_in}
 use Rattle.wasi_host.specs.Run as run

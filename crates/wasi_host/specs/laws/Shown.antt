@@ -11,8 +11,7 @@ use Rattle.wasi_base.specs.declared.io_kind.IoKind.TheVariants.{BrokenPipe}
 use Rattle.wasi_base.specs.Source.{Told}
 use Rattle.wasi_stdin.specs.declared.mode.Mode.{Mode}
 use Rattle.wasi_stdin.specs.declared.mode.Mode.TheVariants.{Idle, Asked, Held, Failed, Closed}
-use Rattle.wasi_stdin.specs.Shared.{Shared, Met, NothingYet, Handed, AtEnd, IsSound, HoldsIn, CapturedIn, met_in, after_in, reading, told_fault, polling, wait_of, mode_holding}
-use Rattle.wasi_stdin.specs.Shared as stdin
+use Rattle.wasi_stdin.specs.Shared.{Shared, Met, Handed, IsSound, HoldsIn, CapturedIn, met_in, after_in, reading, told_fault, polling, wait_of, mode_holding}
 use Rattle.wasi_table.specs.Table.{Held as Row, held_at, parent_in, next_number, new_table, with_pushed, without}
 use Rattle.wasi_table.specs.laws.Kept.{held-insert, held-remove}
 use Rattle.wasi_script.specs.declared.lines.Input.{Input}

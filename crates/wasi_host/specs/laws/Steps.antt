@@ -1,11 +1,10 @@
 -- What steps come to: over a source that tells, what they declare, and how often they deliver.
-use Rattle.std.proofs.Common.{◌≡◌, ℕ, ◌+◌, ◌<◌, ◌≤◌, zero, suc, Bool, true, false, List, [], ◌∷◌, ◌++◌, length, get_or, set, drop, cond, Option, Some, None, refl, ap, arith, ◌∙◌, sym, subst, add-one, append-nil, append_assoc}
+use Rattle.std.proofs.Common.{◌≡◌, ℕ, ◌+◌, ◌<◌, ◌≤◌, zero, suc, Bool, true, false, List, [], ◌∷◌, ◌++◌, length, get_or, set, drop, cond, Option, Some, None, refl, ap, arith, ◌∙◌, subst, add-one}
 use Rattle.std.specs.Str.{bytes_eq}
 use Rattle.std.specs.Map.{set_value}
-use Rattle.std.specs.Prelude.{map, MatchOption, is_some, ◌&&◌, nat_eq, nat_le, replicate}
+use Rattle.std.specs.Prelude.{MatchOption, is_some, ◌&&◌, nat_eq, replicate}
 use Rattle.std.specs.Option.{option_map}
 use Rattle.std.proofs.lemmas.Bool.Decides.{nat_tests}
-use Rattle.std.proofs.lemmas.Grind.{common_steps}
 use Rattle.std.proofs.Math.ListN.{length-set}
 use Rattle.std.proofs.Math.Seq.{drop-cons}
 use Rattle.wasi_base.specs.Source.{Told, Given, Gives}
@@ -29,7 +28,6 @@ use Rattle.wasi_script.specs.declared.lines.Line.TheVariants as line
 use Rattle.wasi_script.specs.Grammar.{AllStand, may_stand, names_after, no_names, setting_stands}
 use Rattle.wasi_reply.specs.declared.reply.Reply.{Reply}
 use Rattle.wasi_reply.specs.declared.reply.Reply.TheVariants as reply
-use Rattle.wasi_reply.specs.Reply.{text_of_all, reply_line}
 use Rattle.wasi_host.specs.declared.entry.Entry.{Entry}
 use Rattle.wasi_host.specs.declared.entry.Entry.TheVariants as entry
 use Rattle.wasi_host.specs.declared.entry.SharedEntry.{SharedEntry}
@@ -38,7 +36,7 @@ use Rattle.wasi_host.specs.declared.stream.InStream.{InStream}
 use Rattle.wasi_host.specs.declared.stream.OutStream.{OutStream}
 use Rattle.wasi_host.specs.Deeds.{entry_at}
 use Rattle.wasi_host.specs.Calls.{Owner, asked}
-use Rattle.wasi_host.specs.Host.{Named, the_rules, Rules, Guest, Streams, configured, put_input, put_output, new_input, new_output, Host, IsStep, new_guest, answer_at, answer_to, answer_by, answer_in, answer, guest_of, was_called_in, names_in, names_of, host_after, step_reply, step_host, step_told, replies, host_end, told_end, delivery_told, after_delivery, after_turn, given_for, told_for, new_host}
+use Rattle.wasi_host.specs.Host.{Named, the_rules, Rules, Guest, Streams, configured, put_input, put_output, new_input, new_output, Host, IsStep, new_guest, answer_at, answer_to, answer_by, answer_in, answer, guest_of, was_called_in, names_in, names_of, host_after, step_reply, step_host, step_told, delivery_told, after_delivery, given_for, told_for, new_host}
 use Rattle.wasi_host.specs.laws.Shown.{cond_same, get_set}
 
 -- over a source that tells, a step is a function of what it tells
