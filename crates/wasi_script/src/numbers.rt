@@ -4,6 +4,7 @@ ghost use Rattle.std.specs.Char.{is_ascii_digit};
 ghost use Rattle.wasi_script.specs.Fields.{number_of, guest_of, capacity_of, room_of, count_of, exit_code_of};
 
 /// A number of 1 to 20 decimal digits that a u64 holds. Leading zeros are fine.
+#[tactic(auto, using(crate::proofs::NumberFacts::number_parsed))]
 pub fn parse_number(text: &[u8]) -> Option<u64>
     ensures { result ≡ number_of text.now }
 {
