@@ -12,7 +12,7 @@ use wasi_base::{IoKind, OutOfMemory, Plan, SinkPlan};
 /// What an input's source does at each read: its plan, of at most 1024 items.
 #[derive(Drop)]
 pub struct ReadPlan {
-    items: Vec<Plan>,
+    items: Box<Vec<Plan>>,
 }
 
 impl Model for ReadPlan {
@@ -21,7 +21,7 @@ impl Model for ReadPlan {
 
     ghost Value = { List Plan };
 
-    ghost view = { λ plan. plan.items.items };
+    ghost view = { λ plan. plan.items.value.items };
 }
 
 impl ReadPlan {
@@ -37,7 +37,7 @@ impl ReadPlan {
     pub(crate) fn read(alloc: Global, text: &[u8]) -> Result<ReadPlan, Refusal>
         ensures { Reads result (read_plan_of text.now) }
     {
-        let items = read_items(alloc, text)?;
+        let items = Box::new(alloc, read_items(alloc, text)?)?;
         Ok(ReadPlan { items })
     }
 }
@@ -45,7 +45,7 @@ impl ReadPlan {
 /// What an output's sink does at each write and flush: its plan, of at most 1024 items.
 #[derive(Drop)]
 pub struct WritePlan {
-    items: Vec<SinkPlan>,
+    items: Box<Vec<SinkPlan>>,
 }
 
 impl Model for WritePlan {
@@ -54,7 +54,7 @@ impl Model for WritePlan {
 
     ghost Value = { List SinkPlan };
 
-    ghost view = { λ plan. plan.items.items };
+    ghost view = { λ plan. plan.items.value.items };
 }
 
 impl WritePlan {
@@ -70,7 +70,7 @@ impl WritePlan {
     pub(crate) fn read(alloc: Global, text: &[u8]) -> Result<WritePlan, Refusal>
         ensures { Reads result (write_plan_of text.now) }
     {
-        let items = read_items(alloc, text)?;
+        let items = Box::new(alloc, read_items(alloc, text)?)?;
         Ok(WritePlan { items })
     }
 }
