@@ -1,7 +1,6 @@
 -- What a call of a guest and a line that says more of one leave of the host.
 use Rattle.std.proofs.Common.{◌≡◌, ℕ, zero, suc, ◌<◌, List, [], ◌∷◌, length, get_or, set, Option, Some, None, Result, Ok, Err, refl, ap, arith, sym, Bool, true, false, cond, ◌∙◌}
-use Rattle.std.specs.Prelude.{IfOk, OnOk, not, ◌||◌, ◌&&◌, is_some, map}
-use Rattle.std.specs.List.{list_any}
+use Rattle.std.specs.Prelude.{IfOk, OnOk, not, ◌||◌, ◌&&◌, is_some}
 use Rattle.std.specs.Map.{lookup}
 use Rattle.std.specs.Str.{bytes_eq}
 use Rattle.std.specs.Option.{option_map}
@@ -10,7 +9,7 @@ use Rattle.wasi_script.specs.declared.lines.Setting.{Setting}
 use Rattle.wasi_script.specs.declared.lines.Call.{Call}
 use Rattle.wasi_script.specs.Grammar.{may_declare, is_among}
 use Rattle.wasi_reply.specs.declared.reply.Reply.{Reply}
-use Rattle.wasi_host.specs.Host.{Named, Guest, Streams, Host, Answered, names_in, names_of, configured, answer_by, answer, answer_in, called_in, the_rules, guest_of, put_answered}
+use Rattle.wasi_host.specs.Host.{Named, Guest, Streams, Host, Answered, names_in, names_of, configured, answer_by, answer, called_in, the_rules, guest_of, put_answered}
 use Rattle.wasi_host.specs.laws.Steps.{first_of, second_of}
 
 -- a guest that is there

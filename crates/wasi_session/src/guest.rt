@@ -185,7 +185,14 @@ impl Guest {
     {
         let deed = match stream {
             Standard::Input => streams.call(alloc, &self.settings.input, call, at, entry)?,
-            Standard::Output => streams.send(alloc, &self.settings.stdout, call, stream, at, entry)?,
+            Standard::Output => streams.send(
+                alloc,
+                &self.settings.stdout,
+                call,
+                stream,
+                at,
+                entry,
+            )?,
             Standard::Error => streams.send(alloc, &self.settings.stderr, call, stream, at, entry)?,
         };
         Ok(deed.apart())

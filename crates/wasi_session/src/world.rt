@@ -21,8 +21,7 @@ use wasi_base::{MemSink, MemSource, OutOfMemory, Source};
 use wasi_host::{FileInput, FileOutput, InStream, OutStream, ProcessOutput};
 use wasi_reply::{Reply, Told, Worked};
 use wasi_script::{
-    Call, Input, InputDeclaration, Line, Name, OutputDeclaration, Setting, WorkerTurn,
-    WritePlan,
+    Call, Input, InputDeclaration, Line, Name, OutputDeclaration, Setting, WorkerTurn, WritePlan,
 };
 use wasi_stdin::{MOST_BYTES, Outcome, StdinCore, deliver_from};
 use wasi_streams::{MemoryInputPipe, MemoryOutputPipe};
@@ -174,12 +173,7 @@ impl World {
         self.streams.add_output(alloc, name, output)
     }
 
-    fn declare_guest(
-        &mut self,
-        alloc: Global,
-        guest: u32,
-        input: &Input,
-    ) -> Result<(), OutOfMemory>
+    fn declare_guest(&mut self, alloc: Global, guest: u32, input: &Input) -> Result<(), OutOfMemory>
         requires { guest < 64 }
         ensures ok { OnOk result (self.new ≡ with_guest guest (Some (new_guest input.now)) self.old) }
         ensures err { OnErr result (self.new ≡ self.old) }
@@ -189,12 +183,7 @@ impl World {
         Ok(())
     }
 
-    fn configure(
-        &mut self,
-        alloc: Global,
-        guest: u32,
-        setting: &Setting,
-    ) -> Result<(), OutOfMemory>
+    fn configure(&mut self, alloc: Global, guest: u32, setting: &Setting) -> Result<(), OutOfMemory>
         requires there { is_some (guest_of self.old guest) ≡ true }
         requires stands { setting_stands (names_of self.old) setting.now ≡ true }
         ensures ok { OnOk result (self.new ≡ with_guest guest (option_map (configured setting.now) (guest_of self.old guest)) self.old) }
