@@ -98,8 +98,7 @@ outputs_keep (on.Write bytes) to owner at.Plain s own is = let kept = write_keep
 outputs_keep (on.PollWrite bytes) to owner at.Polled s own is = let kept = poll_write_keeps bytes s is in record { declared = kept.declared; took = (poll_told told.Count (output_poll_write s bytes), refl, kept.took) }
 outputs_keep on.Flush to owner at.Plain s own is = record { declared = flush_declared s is; took = flush_took s }
 outputs_keep on.PollFlush to owner at.Polled s own is = record { declared = flush_declared s is; took = flush_took s }
-outputs_keep on.CheckWrite to owner at.Plain s own is = record { declared = is; took = refl }
-outputs_keep on.Subscribe to owner at.Plain s own is = record { declared = is; took = refl }
 outputs_keep on.Ready to owner at.Pollable s own is = record { declared = is; took = refl }
-outputs_keep on.Block to owner at.Pollable s own is = record { declared = is; took = refl }
-outputs_keep other to owner entry s own is = record { declared = is; took = refl }
+outputs_keep other to owner at.Plain s own is = record { declared = is; took = refl }
+outputs_keep other to owner at.Polled s own is = record { declared = is; took = refl }
+outputs_keep other to owner at.Pollable s own is = record { declared = is; took = refl }

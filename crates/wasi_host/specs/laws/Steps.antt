@@ -232,11 +232,11 @@ asked_count : (it : EntryCall) (at : Owner) (e : SharedEntry) (s : Shared) → (
 asked_count (ask.Read size) at on.Reader s = after_read_count s size
 asked_count (ask.Skip size) at on.Reader s = after_read_count s size
 asked_count (ask.PollRead room) at (on.Polled wait) s = after_poll_count (is_waiting wait s.deliveries) s room
-asked_count ask.Subscribe at on.Reader s = refl
-asked_count ask.Ready at (on.Pollable wait) s = refl
 asked_count ask.Block at (on.Pollable None) s = refl
 asked_count ask.Block at (on.Pollable (Some since)) s = refl
-asked_count other at e s = refl
+asked_count other at on.Reader s = refl
+asked_count other at (on.Polled wait) s = refl
+asked_count other at (on.Pollable wait) s = refl
 
 at_count : (it : EntryCall) (at : Owner) (o : Option Entry) (guest : Guest) (s : Shared) (streams : Streams) → (answer_at the_rules it at o guest s streams).shared.deliveries ≡ s.deliveries
 at_count it at None guest s streams = refl
