@@ -445,6 +445,20 @@ fn there_are_64_guests_and_64_streams(rt: HostRuntime) -> Result<(), Fail> {
     shows_long(&rt, alloc, script.as_bytes(), transcript.as_bytes())
 }
 
+#[test]
+fn the_least_and_the_greatest_arguments_find_memory(rt: HostRuntime) -> Result<(), Fail> {
+    let none = Vec::new(rt.alloc());
+    plays(
+        &rt,
+        rt.alloc(),
+        b"infile ABCDEFGHIJKLMNOPQRSTUVWXYZ012345 616263 t18446744073709551615\noutfile B 0 -\nguest 63 ABCDEFGHIJKLMNOPQRSTUVWXYZ012345\nguest 0 shared\nstdout 0 B\ncapacity 63 65536\ncapacity 0 4\ncall 63 get-stdin\ncall 63 async-stdin\ncall 63 poll-read 1 0\ncall 63 read 0 0\ncall 63 read 0 18446744073709551615\ncall 63 poll-read 1 18446744073709551615\ncall 63 skip 0 18446744073709551615\ncall 0 get-stdin\ncall 0 async-stdin\ncall 0 read 0 0\ncall 0 read 0 18446744073709551615\ncapture\ndeliver\ncall 0 read 0 18446744073709551615\ncall 0 get-stdout\ncall 0 write 2 -\ncall 0 async-stdout\ncall 0 poll-write 3 -\ncall 0 exit-code 255\n",
+        b"ab",
+        none,
+        b"ok\nok\nok\nok\nok\nok\nok\nhandle 0\nhandle 1\nbytes -\nbytes -\nbytes 616263\nbytes -\nclosed\nhandle 0\nhandle 1\nbytes -\nbytes -\ncaptured 65536\ngave 2\nbytes 6162\nhandle 2\nok\nhandle 3\ncount 0\nexit 255\noutput B -\n",
+        b"",
+    )
+}
+
 // a source that tells nothing and counts its reads
 #[derive(Drop)]
 struct Counting {
