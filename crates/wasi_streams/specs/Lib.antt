@@ -3,3 +3,4 @@ pub mod MemoryPipes
 pub mod Files
 pub mod Pieces
 pub mod Outputs
+pub mod Reader

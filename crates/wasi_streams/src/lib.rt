@@ -2,23 +2,27 @@
 //! that are closed or keep nothing.
 #![tactic(auto)]
 
+mod async_read;
 mod block;
 mod closed;
 mod input_file;
 mod memory_input_pipe;
 mod memory_output_pipe;
 mod output_file;
+mod reader_turn;
 mod sink_output;
 mod stdio_output;
 mod streams;
 #[cfg(test)]
 mod tests;
 
+pub use async_read::AsyncReadStream;
 pub use closed::{ClosedInputStream, ClosedOutputStream};
 pub use input_file::InputFile;
 pub use memory_input_pipe::MemoryInputPipe;
 pub use memory_output_pipe::MemoryOutputPipe;
 pub use output_file::OutputFile;
+pub use reader_turn::ReaderTurn;
 pub use sink_output::SinkOutputStream;
 pub use stdio_output::StdioOutputStream;
 pub use streams::{InputStream, OutputStream, Pollable};
