@@ -4,3 +4,4 @@ pub mod Files
 pub mod Pieces
 pub mod Outputs
 pub mod Reader
+pub mod Writer

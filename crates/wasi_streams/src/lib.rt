@@ -3,6 +3,7 @@
 #![tactic(auto)]
 
 mod async_read;
+mod async_write;
 mod block;
 mod closed;
 mod input_file;
@@ -13,10 +14,12 @@ mod reader_turn;
 mod sink_output;
 mod stdio_output;
 mod streams;
+mod writer_turn;
 #[cfg(test)]
 mod tests;
 
 pub use async_read::AsyncReadStream;
+pub use async_write::AsyncWriteStream;
 pub use closed::{ClosedInputStream, ClosedOutputStream};
 pub use input_file::InputFile;
 pub use memory_input_pipe::MemoryInputPipe;
@@ -26,3 +29,4 @@ pub use reader_turn::ReaderTurn;
 pub use sink_output::SinkOutputStream;
 pub use stdio_output::StdioOutputStream;
 pub use streams::{InputStream, OutputStream, Pollable};
+pub use writer_turn::WriterTurn;
