@@ -14,9 +14,9 @@ mod reader_turn;
 mod sink_output;
 mod stdio_output;
 mod streams;
-mod writer_turn;
 #[cfg(test)]
 mod tests;
+mod writer_turn;
 
 pub use async_read::AsyncReadStream;
 pub use async_write::AsyncWriteStream;
