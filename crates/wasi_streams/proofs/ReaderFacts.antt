@@ -1,8 +1,6 @@
 -- The item that a read of the reader takes.
-use Rattle.std.proofs.Common.{◌≡◌, ℕ, ◌-◌, ◌<◌, ◌≤◌, List, [], ◌∷◌, length, drop, Option, Some, None, refl, ap, sym, ◌∙◌, arith, length-drop, Bool, true, false}
-use Rattle.std.specs.Prelude.{◌||◌, is_some}
+use Rattle.std.proofs.Common.{◌≡◌, ℕ, ◌-◌, ◌<◌, List, [], ◌∷◌, length, drop, Option, Some, refl, ap, sym, ◌∙◌, arith, length-drop}
 use Rattle.wasi_base.specs.Source.{Given, Bytes}
-use Rattle.wasi_streams.specs.declared.reader_turn.Waiting.{Waiting}
 use Rattle.wasi_streams.specs.declared.reader_turn.Waiting.TheVariants as waiting
 use Rattle.wasi_streams.specs.Reader.{Reader, next_item, channel_after, counted, item_bytes}
 

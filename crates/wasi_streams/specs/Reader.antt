@@ -1,6 +1,5 @@
 -- An input whose reader task reads ahead: one item in a channel, and the rest of an item kept.
 use Rattle.std.specs.Prelude.{◌≡◌, ℕ, Bool, true, false, ◌||◌, ◌≤◌, is_some, if◌then◌else◌, List, [], ◌∷◌, length, take, drop, Option, Some, None, Result, Ok, Err}
-use Rattle.wasi_base.specs.Causes.{Rose}
 use Rattle.wasi_base.specs.Source.{Told, Given, Bytes, End, Fault, Gives}
 use Rattle.wasi_base.specs.declared.stream_error.StreamError.{StreamError}
 use Rattle.wasi_base.specs.declared.stream_error.StreamError.TheVariants.{Closed, LastOperationFailed}

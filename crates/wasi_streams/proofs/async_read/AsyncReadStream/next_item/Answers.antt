@@ -1,4 +1,4 @@
-use Rattle.std.proofs.Common.{◌≡◌, ◌<◌, length, arith, ◌∙◌}
+use Rattle.std.proofs.Common.{◌≡◌, ◌<◌, length, arith}
 use Rattle.wasi_streams.specs.Reader.{item_of}
 use Rattle.wasi_streams.proofs.ReaderFacts.{kept_counted}
 use Rattle.wasi_streams.proofs.async_read.AsyncReadStream.next_item.Goals as goal

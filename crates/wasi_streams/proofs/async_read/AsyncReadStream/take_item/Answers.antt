@@ -1,4 +1,4 @@
-use Rattle.std.proofs.Common.{◌≡◌, ◌<◌, length, drop, arith}
+use Rattle.std.proofs.Common.{◌≡◌, ◌<◌, length, arith}
 use Rattle.wasi_streams.proofs.ReaderFacts.{kept_stays, left}
 use Rattle.wasi_streams.proofs.async_read.AsyncReadStream.take_item.Goals as goal
 
