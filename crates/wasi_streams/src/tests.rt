@@ -1,3 +1,5 @@
+mod buffered;
+
 use crate::{
     ClosedInputStream, ClosedOutputStream, InputFile, InputStream, MemoryInputPipe,
     MemoryOutputPipe, OutputFile, OutputStream, Pollable, SinkOutputStream, StdioOutputStream,
