@@ -25,6 +25,7 @@ fn zeros(alloc: Global, count: usize) -> Result<Bytes, AllocError> {
 fn a_task_reads_one_item_ahead(rt: HostRuntime) -> Result<(), Fail> {
     let alloc = rt.alloc();
     let bytes = vec![in alloc; 0x7bu8; 131072]?;
+    let item = vec![in alloc; 0x7bu8; 65536]?;
     let mut stream = reader(alloc, &bytes, &[])?;
     gives(&rt, alloc, &mut stream, 10, b"");
     assert_eq!(rt; stream.ready(), false);
@@ -33,7 +34,7 @@ fn a_task_reads_one_item_ahead(rt: HostRuntime) -> Result<(), Fail> {
     assert_eq!(rt; stream.ready(), true);
     gives(&rt, alloc, &mut stream, 0, b"");
     assert_eq!(rt; stream.turn(), ReaderTurn::Gave(65536));
-    gives(&rt, alloc, &mut stream, 65537, &bytes[..65536]);
+    gives(&rt, alloc, &mut stream, 65537, &item);
     skips(&rt, &mut stream, 65535, Ok(65535));
     assert_eq!(rt; stream.turn(), ReaderTurn::End);
     gives(&rt, alloc, &mut stream, 8, b"{");
