@@ -116,13 +116,15 @@ impl<S: Source + Drop> AsyncReadStream<S> {
         }
     }
 
-    // the end or the fault in the channel is taken
-    fn close(&mut self)
+    // the end or the fault in the channel is taken, and told once
+    fn close_with(&mut self, told: StreamError) -> StreamError
         requires { closes (next_item self.old.kept self.old.channel) ≡ true }
-        ensures { self.new ≡ record { source = self.old.source; channel = None; kept = []; ended = self.old.ended; closed = true } }
+        ensures told { result ≡ told }
+        ensures after { self.new ≡ record { source = self.old.source; channel = None; kept = []; ended = self.old.ended; closed = true } }
     {
         self.channel = None;
         self.closed = true;
+        told
     }
 
     // bytes in the channel are kept, where none are
@@ -186,13 +188,9 @@ impl<S: Source + Drop> InputStream for AsyncReadStream<S> {
                     Err(OutOfMemory) => Err(StreamError::OutOfMemory),
                 }
             }
-            Some(Waiting::End) => {
-                self.close();
-                Err(StreamError::Closed)
-            }
+            Some(Waiting::End) => Err(self.close_with(StreamError::Closed)),
             Some(Waiting::Fault(kind)) => {
-                self.close();
-                Err(StreamError::LastOperationFailed(kind))
+                Err(self.close_with(StreamError::LastOperationFailed(kind)))
             }
         }
     }
@@ -214,13 +212,9 @@ impl<S: Source + Drop> InputStream for AsyncReadStream<S> {
                 self.drop_front(count as usize);
                 Ok(count)
             }
-            Some(Waiting::End) => {
-                self.close();
-                Err(StreamError::Closed)
-            }
+            Some(Waiting::End) => Err(self.close_with(StreamError::Closed)),
             Some(Waiting::Fault(kind)) => {
-                self.close();
-                Err(StreamError::LastOperationFailed(kind))
+                Err(self.close_with(StreamError::LastOperationFailed(kind)))
             }
         }
     }
