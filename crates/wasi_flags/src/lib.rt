@@ -1,2 +1,4 @@
-//! Words on flags that several crates' definitions cite. There is no code here.
+//! Words on flags that several crates' definitions cite, and their laws. No other code.
 #![tactic(auto)]
+
+pub mod laws;

@@ -80,6 +80,8 @@ impl fmt::Display for ErrorCode {
 
     ghost output = { λ code. Some (code_name code) };
 
+    ghost styled_output = { λ code _. Some (code_name code) };
+
     fn fmt<W: fmt::Write>(&self, f: &mut fmt::Formatter<W>) -> fmt::Result {
         f.write_str(self.name())
     }
