@@ -5,6 +5,7 @@ pub mod OutStreams
 pub mod Calls
 pub mod Host
 pub mod Run
+pub mod Sound
 pub mod View
 pub mod Transcript
 pub mod Promises

@@ -1,4 +1,5 @@
 ghost use Rattle.wasi_host.specs.Promises.{HostRuns, CallsStayInReach, InputsArePutBack, OutputsArePutBack, GuestsAreIsolated, EachIsAlone, OutputsKeep, OutputsFill, TranscriptsFixRuns};
+ghost use Rattle.wasi_host.specs.Sound.{RunsAreSound, RunsKeepRequests, RunsTellOnce};
 
 use wasi_reply::lines_fix_replies;
 
@@ -53,4 +54,24 @@ pub fn outputs_keep_what_they_took()
 /// what the transcript prints of it.
 pub fn outputs_fill_in_order()
     ensures { OutputsFill }
+{}
+
+/// A law, for every run of the rules on the shared input: bytes are held exactly in the mode that
+/// says so; a captured size is from 1 to 65536 and stands only while something is asked; each wait
+/// is at most the count of deliveries, and where it is that count something is asked. It holds at
+/// the start, each step keeps it, and so it holds after each run.
+pub fn runs_are_sound()
+    ensures { RunsAreSound }
+{}
+
+/// A law: in every run, while a size is captured it stays captured, and what is asked for never
+/// falls until its delivery.
+pub fn runs_keep_requests()
+    ensures { RunsKeepRequests }
+{}
+
+/// A law: in every run, its guests are told the input's faults at most as often as the worker
+/// delivered one.
+pub fn runs_tell_each_fault_once()
+    ensures { RunsTellOnce }
 {}

@@ -3,6 +3,7 @@ use Rattle.std.specs.Prelude.{◌≡◌, ℕ, ◌≤◌, ◌<◌, List, ◌++◌
 use Rattle.wasi_base.specs.Source.{Told}
 use Rattle.wasi_base.specs.Sink.{with_more}
 use Rattle.wasi_script.specs.Grammar.{parsed, Bad, IsGood, steps_of}
+use Rattle.wasi_script.specs.declared.lines.Line.{Line}
 use Rattle.wasi_host.specs.Transcript.{transcript, told_after_run}
 use Rattle.wasi_session.specs.declared.read.ReadError.{ReadError}
 use Rattle.wasi_session.specs.declared.read.ReadError.TheVariants.{Fault}
@@ -84,3 +85,13 @@ pub record IsCutOff (script : List ℕ) (input : Told) (taken_before taken_after
   pub part : count < length (transcript (steps_of (parsed script)) input)
   pub out : taken_after ≡ with_more taken_before (take count (transcript (steps_of (parsed script)) input))
   pub stdin : told_after ≡ Some (told_after_run (steps_of (parsed script)) input)
+
+-- a session that found no memory: the input is left as some first steps of the run left it
+pub record LeftByFirst (steps : List Line) (input : Told) (told_after : Option Told) : Type 0 where
+  pub count : ℕ
+  pub within : count ≤ length steps
+  pub stdin : told_after ≡ Some (told_after_run (take count steps) input)
+
+abbrev pub OnNoMemory : SessionError → Type 0 → Type 0
+OnNoMemory OutOfMemory P = P
+OnNoMemory _ P = Unit {0}

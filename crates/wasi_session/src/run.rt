@@ -1,9 +1,9 @@
-ghost use Rattle.std.specs.Prelude.{◌≡◌, ◌≤◌, ◌<◌, IfOk, IfErr, OnOk, Some, Err, length};
+ghost use Rattle.std.specs.Prelude.{◌≡◌, ◌≤◌, ◌<◌, IfOk, IfErr, OnOk, OnErr, Some, Err, length};
 ghost use Rattle.wasi_base.specs.Causes.{Rose};
 ghost use Rattle.wasi_base.specs.Source.{Told};
 ghost use Rattle.wasi_script.specs.Grammar.{AllStand, no_names, parsed, Bad, IsGood, steps_of};
 ghost use Rattle.wasi_host.specs.Transcript.{transcript, told_after_run, IsDone};
-ghost use Rattle.wasi_session.specs.Reading.{ScriptRead, BytesTell, OnUnstarted, OnReadFault, OnWriteFault, IsCutOff};
+ghost use Rattle.wasi_session.specs.Reading.{ScriptRead, BytesTell, OnUnstarted, OnReadFault, OnWriteFault, OnNoMemory, IsCutOff, LeftByFirst};
 
 use crate::read::{ReadError, read_script};
 use crate::session::Session;
@@ -34,6 +34,7 @@ fn run_steps<I: Source>(
     requires { AllStand no_names steps.now }
     ensures text { (t : Told) → I.told stdin.old ≡ Some t → IfOk result (λ text. text.items ≡ transcript steps.now t) }
     ensures told { (t : Told) → I.told stdin.old ≡ Some t → OnOk result (I.told stdin.new ≡ Some (told_after_run steps.now t)) }
+    ensures stopped { (t : Told) → I.told stdin.old ≡ Some t → OnErr result (LeftByFirst steps.now t (I.told stdin.new)) }
     ensures later { I.faults stdin.old ≤ I.faults stdin.new }
 {
     let mut session = Session::new(alloc)?;
@@ -47,7 +48,8 @@ fn run_steps<I: Source>(
 
 /// A whole session: reads the script, runs its steps on the guests' input, and writes the
 /// transcript. The whole script is read and checked before the first step, so until then nothing
-/// is written and the input is unread.
+/// is written and the input is unread. Where memory runs out nothing is written, and the input is
+/// left as some first steps left it.
 pub fn run_session<S: Source, I: Source, K: Sink>(
     alloc: Global,
     script: &mut S,
@@ -59,6 +61,7 @@ pub fn run_session<S: Source, I: Source, K: Sink>(
     ensures read { IfErr result (λ e. OnReadFault e (Rose (S.faults script.old) (S.faults script.new))) }
     ensures write { IfErr result (λ e. OnWriteFault e (Rose (K.faults out.old) (K.faults out.new))) }
     ensures cut_off { (s : Told) (t : Told) → S.told script.old ≡ Some s → I.told stdin.old ≡ Some t → IfErr result (λ e. OnWriteFault e (IsCutOff s.left t (K.taken out.old) (K.taken out.new) (I.told stdin.new))) }
+    ensures stopped { (s : Told) (t : Told) → S.told script.old ≡ Some s → I.told stdin.old ≡ Some t → IfErr result (λ e. OnNoMemory e (LeftByFirst (steps_of (parsed s.left)) t (I.told stdin.new))) }
     ensures unstarted { IfErr result (λ e. OnUnstarted e ((out.new ≡ out.old) × (stdin.new ≡ stdin.old))) }
     ensures unwritten { result ≡ Err SessionError.OutOfMemory → out.new ≡ out.old }
     ensures later { S.faults script.old ≤ S.faults script.new }
@@ -83,6 +86,7 @@ fn run_bytes<I: Source, K: Sink>(
     ensures script { BytesTell result bytes.now }
     ensures write { IfErr result (λ e. OnWriteFault e (Rose (K.faults out.old) (K.faults out.new))) }
     ensures cut_off { (t : Told) → I.told stdin.old ≡ Some t → IfErr result (λ e. OnWriteFault e (IsCutOff bytes.now t (K.taken out.old) (K.taken out.new) (I.told stdin.new))) }
+    ensures stopped { (t : Told) → I.told stdin.old ≡ Some t → IfErr result (λ e. OnNoMemory e (LeftByFirst (steps_of (parsed bytes.now)) t (I.told stdin.new))) }
     ensures unstarted { IfErr result (λ e. OnUnstarted e ((out.new ≡ out.old) × (stdin.new ≡ stdin.old))) }
     ensures unwritten { result ≡ Err SessionError.OutOfMemory → out.new ≡ out.old }
 {

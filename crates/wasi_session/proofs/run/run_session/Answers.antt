@@ -12,3 +12,6 @@ returns-in-Err-Fault-clause-script g c = λ s e. rw c.in-Err-Fault.field-0-is at
 
 pub returns-in-Err-TooLong-clause-script : goal.returns-in-Err-TooLong-clause-script
 returns-in-Err-TooLong-clause-script g c = λ s e. rw c.in-Err-TooLong.field-0-is at (c.in-Err-TooLong.ensures.part s e)
+
+pub returns-in-Ok-clause-stopped : goal.returns-in-Ok-clause-stopped
+returns-in-Ok-clause-stopped g c = λ s t e f. rw (c.deref.ensures.value ∙ (c.in-Ok.ensures.all s e).0) at (c.run_bytes.ensures.stopped t f)
