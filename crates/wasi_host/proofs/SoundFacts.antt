@@ -51,7 +51,7 @@ AllWait mode deliveries standing = (guest number : ℕ) → WaitsIn mode deliver
 put_standing : (mode : Mode) (deliveries : ℕ) (standing : ℕ → ℕ → Option Standing) (g n : ℕ) (it : Option Standing) → WaitsIn mode deliveries it → AllWait mode deliveries standing → AllWait mode deliveries (at_number standing g (at_number (standing g) n it))
 put_standing mode deliveries standing g n it new all =
     at_all (λ row. (number : ℕ) → WaitsIn mode deliveries (row number)) standing g (at_number (standing g) n it)
-      (at_all (WaitsIn mode deliveries) (standing g) n it new (all g)) all
+    (at_all (WaitsIn mode deliveries) (standing g) n it new (all g)) all
 
 no_guest : (mode : Mode) (deliveries : ℕ) (standing : ℕ → ℕ → Option Standing) (g : ℕ) → AllWait mode deliveries standing → AllWait mode deliveries (at_number standing g (λ number. None))
 no_guest mode deliveries standing g all = at_all (λ row. (number : ℕ) → WaitsIn mode deliveries (row number)) standing g (λ number. None) (λ number. tt) all
@@ -201,8 +201,8 @@ call_sound other input s g answer s' sound h = subst IsSoundRun (sym h) sound
 left_sound : (c : Call) (g : ℕ) (answer : Reply) (s : Sharing) → IsSoundRun s → IsSoundRun (left_by c g answer s)
 left_sound c g answer s sound =
     put_all IsSoundRun (ends answer) (without_guest s g) (record s { live = at_number s.live g (live_after c answer (s.live g)) })
-      (record { within = sound.within; holds = sound.holds; captures = sound.captures; waits = no_guest s.mode s.deliveries s.standing g sound.waits })
-      (record { within = sound.within; holds = sound.holds; captures = sound.captures; waits = sound.waits })
+    (record { within = sound.within; holds = sound.holds; captures = sound.captures; waits = no_guest s.mode s.deliveries s.standing g sound.waits })
+    (record { within = sound.within; holds = sound.holds; captures = sound.captures; waits = sound.waits })
 
 ended_sound : (ended : Bool) (c : Call) (input : List ℕ) (s : Sharing) (g : ℕ) (answer : Reply) (s' : Sharing) → IsSoundRun s → EndedRule ended c input s g answer s' → IsSoundRun s'
 ended_sound true c input s g answer s' sound h = subst IsSoundRun (sym h.1) sound
@@ -272,10 +272,10 @@ run_sound input s (step ∷ steps) [] bytes s' sound run = absurd run
 
 pub runs_are_sound : RunsAreSound
 runs_are_sound = record {
-    starts = λ told. record { within = omega arith; holds = refl; captures = refl; waits = λ guest number. tt };
-    keeps = step_sound;
-    ends = run_sound;
-  }
+  starts = λ told. record { within = omega arith; holds = refl; captures = refl; waits = λ guest number. tt };
+  keeps = step_sound;
+  ends = run_sound;
+}
 
 -- ---- requests: as much is asked for as n, or more, and what is captured stays
 abbrev Asks : Sharing → ℕ → Sharing → Type 0
