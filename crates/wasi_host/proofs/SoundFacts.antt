@@ -3,6 +3,7 @@ use Rattle.std.specs.Prelude.{◌≡◌, ℕ, zero, suc, ◌+◌, ◌-◌, ◌<�
 use Rattle.std.proofs.Common.{refl, sym, ◌∙◌, ap, subst, arith}
 use Rattle.std.proofs.Common.{inl, inr}
 use Rattle.std.proofs.lemmas.Bool.Decides.{nat_tests}
+use Rattle.std.specs.List.{AllByRecursion}
 use Rattle.std.proofs.lemmas.List.{length-take}
 use Rattle.wasi_base.specs.declared.io_kind.IoKind.{IoKind}
 use Rattle.wasi_base.specs.declared.io_kind.IoKind.TheVariants as kind
@@ -14,6 +15,7 @@ use Rattle.wasi_stdin.specs.declared.mode.Mode.{Mode}
 use Rattle.wasi_stdin.specs.declared.mode.Mode.TheVariants.{Idle, Asked, Held, Failed, Closed}
 use Rattle.wasi_stdin.specs.Shared.{CapturedIn}
 use Rattle.wasi_stdin.specs.Rules.{IsAsked}
+use Rattle.wasi_stdin.specs.laws.Kept.{asked_any, asked_none, asked_at}
 use Rattle.wasi_script.specs.declared.lines.Access.{Access}
 use Rattle.wasi_script.specs.declared.lines.Access.TheVariants as access
 use Rattle.wasi_script.specs.declared.lines.Standard.TheVariants as standard
@@ -34,7 +36,7 @@ use Rattle.wasi_reply.specs.declared.reply.Reply.{Reply}
 use Rattle.wasi_reply.specs.declared.reply.Reply.TheVariants as reply
 use Rattle.wasi_reply.specs.Reply.{ends}
 use Rattle.wasi_host.specs.Run.{Standing, Reader, Polled, Pollable, Sharing, at_number, at_start, without_guest, with_standing, without_standing, held_count, after_row, read_row, poll_row, fault_to_read, ReadRule, SkipRule, counted, is_over, PollRule, after_ready_row, ReadyRule, wait_row, WaitedRule, BlockRule, Tells, MakeRule, is_full, EntryRule, DropRule, OpenRule, opened_standing, CallRule, live_after, left_by, EndedRule, size_captured, CaptureRule, delivery_answer, delivered_row, DeliverRule, WorkerRule, setting_row, is_shared, Rule, IsRun}
-use Rattle.wasi_host.specs.Sound.{HoldsCount, IsWaitIn, WaitsIn, SoundIn, IsSoundRun, RunsAreSound, IsNoDelivery, HaveNoDelivery, RunsKeepRequests, faults_in, entry_faults, call_faults, step_faults, faults_told, delivered_fault, faults_delivered, RunsTellOnce}
+use Rattle.wasi_host.specs.Sound.{HoldsCount, IsWaitIn, WaitsIn, SoundIn, IsSoundRun, RunsAreSound, IsNoDelivery, request_of, RunsKeepRequests, faults_in, entry_faults, call_faults, step_faults, faults_told, delivered_fault, faults_delivered, RunsTellOnce}
 
 -- ---- families of values by a number
 put_all : {A : Type 0} (P : A → Type 0) (b : Bool) (x y : A) → P x → P y → P (cond b x y)
@@ -78,14 +80,6 @@ waits_over mode mode' deliveries (Some (Polled wait)) h = wait_over mode mode' d
 waits_over mode mode' deliveries (Some (Pollable parent wait)) h = wait_over mode mode' deliveries wait h
 
 -- ---- one who asks for bytes
-asked_any : (c : Option ℕ) (n k : ℕ) → CapturedIn (Asked n) c → CapturedIn (Asked k) c
-asked_any None n k h = tt
-asked_any (Some size) n k h = h
-
-asked_none : (c : Option ℕ) (k : ℕ) → c ≡ None → CapturedIn (Asked k) c
-asked_none None k h = tt
-asked_none (Some size) k h = absurd (cc)
-
 taken_holds : (b : Bool) (k count : ℕ) → nat_eq k count ≡ b → k ≤ count → HoldsCount (cond b Idle Held) (count - k)
 taken_holds true k count e le = grind (arith, nat_tests, e)
 taken_holds false k count e le = grind (arith, nat_tests, e, le)
@@ -372,7 +366,7 @@ step_asks input s (line.Worker turn.Capture) answer s' size n held e none h = ca
 step_asks input s (line.Worker turn.Deliver) answer s' size n held e none h = absurd none
 step_asks input s other answer s' size n held e none h = subst (Asks s n) (sym h.1) (asks_still s n e)
 
-run_asks : (input : List ℕ) (s : Sharing) (size n : ℕ) (steps : List Line) (answers : List Reply) (bytes : List ℕ) (s' : Sharing) → s.captured ≡ Some size → s.mode ≡ Asked n → HaveNoDelivery steps → IsRun input s steps answers bytes s' → Asks s n s'
+run_asks : (input : List ℕ) (s : Sharing) (size n : ℕ) (steps : List Line) (answers : List Reply) (bytes : List ℕ) (s' : Sharing) → s.captured ≡ Some size → s.mode ≡ Asked n → AllByRecursion IsNoDelivery steps → IsRun input s steps answers bytes s' → Asks s n s'
 run_asks input s size n [] [] bytes s' held e none run = subst (Asks s n) (sym run.0) (asks_still s n e)
 run_asks input s size n (step ∷ steps) (answer ∷ answers) bytes s' held e none run =
     let one = step_asks input s step answer run.mid size n held e none.0 run.rule in
@@ -380,14 +374,6 @@ run_asks input s size n (step ∷ steps) (answer ∷ answers) bytes s' held e no
     (rest.0, rest.1, omega (arith, one.2, rest.2), rest.3 ∙ one.3)
 run_asks input s size n [] (answer ∷ answers) bytes s' held e none run = absurd run
 run_asks input s size n (step ∷ steps) [] bytes s' held e none run = absurd run
-
--- something is asked while a size is captured
-asked_at : (m : Mode) (c : Option ℕ) (size : ℕ) → CapturedIn m c → c ≡ Some size → (n : ℕ) × (m ≡ Asked n)
-asked_at (Asked n) c size k e = (n, refl)
-asked_at Idle c size k e = absurd (cc)
-asked_at Held c size k e = absurd (cc)
-asked_at (Failed kind) c size k e = absurd (cc)
-asked_at Closed c size k e = absurd (cc)
 
 pub runs_keep_requests : RunsKeepRequests
 runs_keep_requests input s size steps answers bytes s' sound held none run =

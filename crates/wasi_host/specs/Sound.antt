@@ -1,10 +1,11 @@
 -- What holds of every run, over all its steps.
 use Rattle.std.specs.Prelude.{◌≡◌, ℕ, ◌+◌, ◌<◌, ◌≤◌, Bool, false, List, [], ◌∷◌, Option, Some, None}
+use Rattle.std.specs.List.{AllByRecursion}
 use Rattle.wasi_base.specs.Source.{Told}
 use Rattle.wasi_stdin.specs.declared.mode.Mode.{Mode}
-use Rattle.wasi_stdin.specs.declared.mode.Mode.TheVariants.{Asked, Held}
-use Rattle.wasi_stdin.specs.Shared.{CapturedIn}
-use Rattle.wasi_stdin.specs.Rules.{IsAsked}
+use Rattle.wasi_stdin.specs.declared.mode.Mode.TheVariants.{Held}
+use Rattle.wasi_stdin.specs.Shared.{Shared, CapturedIn}
+use Rattle.wasi_stdin.specs.Rules.{IsWait, StaysCaptured}
 use Rattle.wasi_script.specs.declared.lines.EntryCall.{EntryCall}
 use Rattle.wasi_script.specs.declared.lines.EntryCall.TheVariants as on
 use Rattle.wasi_script.specs.declared.lines.Call.{Call}
@@ -24,10 +25,9 @@ abbrev pub HoldsCount : Mode → ℕ → Type 0
 HoldsCount Held count = 0 < count
 HoldsCount other count = count ≡ 0
 
--- a wait is at most the count of deliveries, and where it is that count something is asked
+-- a wait that may stand in this mode, after so many deliveries
 abbrev pub IsWaitIn : Mode → ℕ → Option ℕ → Type 0
-IsWaitIn mode deliveries None = Unit {0}
-IsWaitIn mode deliveries (Some since) = (since ≤ deliveries) × (since ≡ deliveries → IsAsked mode)
+IsWaitIn mode deliveries wait = IsWait (record { mode = mode; held = []; captured = None; deliveries = deliveries }) wait
 
 abbrev pub WaitsIn : Mode → ℕ → Option Standing → Type 0
 WaitsIn mode deliveries None = Unit {0}
@@ -56,24 +56,15 @@ abbrev pub IsNoDelivery : Line → Type 0
 IsNoDelivery (line.Worker turn.Deliver) = ⊥
 IsNoDelivery other = Unit {0}
 
-abbrev pub HaveNoDelivery : List Line → Type 0
-HaveNoDelivery [] = Unit {0}
-HaveNoDelivery (step ∷ steps) = IsNoDelivery step × HaveNoDelivery steps
+-- what a run tells of the requests for the input
+abbrev pub request_of : Sharing → Shared
+request_of s = record { mode = s.mode; held = []; captured = s.captured; deliveries = s.deliveries }
 
--- the same size stays captured, and as much is asked for as before, or more
-pub record StaysCaptured (before after : Sharing) : Type 0 where
-  pub captured : after.captured ≡ before.captured
-  pub first : ℕ
-  pub asked : before.mode ≡ Asked first
-  pub last : ℕ
-  pub asks : after.mode ≡ Asked last
-  pub grows : first ≤ last
-
--- until its delivery
+-- the same size stays captured, and as much is asked for as before, or more, until its delivery
 abbrev pub RunsKeepRequests : Type 0
 RunsKeepRequests =
     (input : List ℕ) (s : Sharing) (size : ℕ) (steps : List Line) (answers : List Reply) (bytes : List ℕ) (after : Sharing) →
-    IsSoundRun s → s.captured ≡ Some size → HaveNoDelivery steps → IsRun input s steps answers bytes after → StaysCaptured s after
+    IsSoundRun s → s.captured ≡ Some size → AllByRecursion IsNoDelivery steps → IsRun input s steps answers bytes after → StaysCaptured (request_of s) (request_of after)
 
 -- ---- faults
 abbrev pub faults_in : Reply → ℕ

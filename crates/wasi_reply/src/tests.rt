@@ -72,3 +72,20 @@ fn outputs_are_told(rt: HostRuntime) -> Result<(), Fail> {
     );
     Ok(())
 }
+
+#[test]
+fn the_greatest_texts_find_memory(rt: HostRuntime) -> Result<(), Fail> {
+    let alloc = rt.alloc();
+    let bytes = vec![in alloc; 0x7bu8; 1048576]?;
+    let mut text = Vec::new(alloc);
+    push_output(&mut text, b"", &bytes)?;
+    assert_eq!(rt; text.len(), 2097161);
+    let mut text = Vec::new(alloc);
+    push_line(
+        alloc,
+        &mut text,
+        &Reply::Told(Told::Bytes(Piece::new(bytes))),
+    )?;
+    assert_eq!(rt; text.len(), 2097159);
+    Ok(())
+}

@@ -6,6 +6,7 @@ ghost use Rattle.std.specs.Str.{bytes_eq};
 ghost use Rattle.wasi_script.specs.Fields.{is_at_end, only_field};
 ghost use Rattle.wasi_script.specs.Parts.{parts_in};
 
+use memchr::memchr;
 use std::marker::Model;
 
 /// The parts of a text between the bytes of one kind, from its front.
@@ -60,10 +61,11 @@ fn cut(text: &[u8], separator: u8) -> (&[u8], Option<&[u8]>)
     }
 }
 
+#[tactic(auto, using(crate::proofs::Cuts::found_is_position))]
 fn place_of(text: &[u8], separator: u8) -> Option<usize>
     ensures { result ≡ position (λ byte. nat_eq byte separator) text.now }
 {
-    text.iter().position(|byte| *byte == separator)
+    memchr(separator, text)
 }
 
 pub fn is(word: &[u8], name: &[u8]) -> bool

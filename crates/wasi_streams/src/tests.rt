@@ -283,3 +283,41 @@ fn closed_streams_and_the_sink(rt: HostRuntime) {
     flushes(&rt, &mut sink, Ok(()));
     is_ready(&rt, &mut sink);
 }
+
+#[test]
+fn the_least_and_the_greatest_reads_find_memory(rt: HostRuntime) -> Result<(), Fail> {
+    let alloc = rt.alloc();
+    let bytes = vec![in alloc; 0x7bu8; 65537]?;
+    let most = vec![in alloc; 0x7bu8; 65536]?;
+    let mut file = infile(alloc, &bytes, &[])?;
+    gives(&rt, alloc, &mut file, 0, b"");
+    gives(&rt, alloc, &mut file, 18446744073709551615, &most);
+    let answer = file.poll_read(alloc, 0);
+    polled(&rt, answer, b"");
+    let answer = file.poll_read(alloc, 18446744073709551615);
+    polled(&rt, answer, b"{");
+    refuses(
+        &rt,
+        alloc,
+        &mut file,
+        18446744073709551615,
+        StreamError::Closed,
+    );
+    Ok(())
+}
+
+#[test]
+fn the_least_and_the_greatest_pipes_find_memory(rt: HostRuntime) -> Result<(), Fail> {
+    let alloc = rt.alloc();
+    let mut least = MemoryOutputPipe::new(alloc, 0)?;
+    checks(&rt, &mut least, Err(StreamError::Closed));
+    let mut greatest = MemoryOutputPipe::new(alloc, 1048576)?;
+    checks(&rt, &mut greatest, Ok(1048576));
+    let bytes = vec![in alloc; 0x7bu8; 1048576]?;
+    let mut pipe = MemoryInputPipe::new(Bytes::copy_from_slice(alloc, &bytes)?);
+    let answer = pipe.poll_read(0);
+    polled(&rt, answer, b"");
+    let answer = pipe.poll_read(18446744073709551615);
+    polled(&rt, answer, &bytes);
+    Ok(())
+}

@@ -41,7 +41,7 @@ use Rattle.wasi_host.specs.laws.SharedCalls.{Called, called_by, Does, none_hande
 -- ---- a deed that is apart from the shared input
 apart_none : (it : Entry) (parent : Option ℕ) → is_shared it ≡ false → standing_by it parent ≡ None
 apart_none (entry.Shared it) parent e = absurd (true≢false e)
-apart_none (entry.Stream to it) parent e = refl
+apart_none other parent e = refl
 
 changes_shared : (old : Option Entry) (new : Entry) → may_change old new ≡ true → is_shared new ≡ true
 changes_shared (Some (entry.Shared (on.Polled a))) (entry.Shared (on.Polled b)) e = refl

@@ -91,12 +91,11 @@ not_of true h = absurd (cc)
 not_of false h = refl
 
 set_owned : (it : Setting) (guest : Guest) (live : FinSet nat_cmp) (names : Names) → setting_stands names it ≡ true → guest.was_called ≡ false → IsGuest guest live → IsGuest (configured it guest) live
-set_owned (setting.Stdout to) guest live names fits uncalled is = record { own = is.own; fresh = is.fresh }
-set_owned (setting.Stderr to) guest live names fits uncalled is = record { own = is.own; fresh = is.fresh }
 set_owned (setting.Capacity capacity) guest live names fits uncalled is = record {
   own = subst (λ live. IsOwn (configured (setting.Capacity capacity) guest).own live) (sym (is.fresh uncalled)) (own_new capacity (le_of 1 capacity (first_of _ _ fits)) (le_of capacity 65536 (second_of (nat_le 1 capacity) _ fits)));
   fresh = is.fresh;
 }
+set_owned other guest live names fits uncalled is = record { own = is.own; fresh = is.fresh }
 
 -- what is shown of a guest that is changed so
 put_shown : (front : List ℕ) (shared : Shared) (guests : ℕ → Option Guest) (live : ℕ → FinSet nat_cmp) (told : Told) (n : ℕ) (guest changed : Guest) → guests n ≡ Some guest → standing_in changed.own ≡ standing_in guest.own → changed.settings.input ≡ guest.settings.input → changed.ended ≡ guest.ended → shown front shared (at_number guests n (Some changed)) live told ≡ record (shown front shared guests live told) { capacity = at_number (shown front shared guests live told).capacity n changed.own.table.capacity }
@@ -113,9 +112,8 @@ same_capacity : (front : List ℕ) (shared : Shared) (guests : ℕ → Option Gu
 same_capacity front shared guests live told n guest e = λ i. record (shown front shared guests live told) { capacity = λ g. cond_same {A = ℕ} (λ (m : ℕ). capacity_in (guests m)) g n guest.own.table.capacity (ap capacity_in e) i }
 
 set_shown : (it : Setting) (front : List ℕ) (shared : Shared) (guests : ℕ → Option Guest) (live : ℕ → FinSet nat_cmp) (told : Told) (n : ℕ) (guest : Guest) → guests n ≡ Some guest → guest.was_called ≡ false → IsGuest guest (live n) → shown front shared (at_number guests n (Some (configured it guest))) live told ≡ setting_row it n (shown front shared guests live told)
-set_shown (setting.Stdout to) front shared guests live told n guest e uncalled is = put_shown front shared guests live told n guest (configured (setting.Stdout to) guest) e refl refl refl ∙ same_capacity front shared guests live told n guest e
-set_shown (setting.Stderr to) front shared guests live told n guest e uncalled is = put_shown front shared guests live told n guest (configured (setting.Stderr to) guest) e refl refl refl ∙ same_capacity front shared guests live told n guest e
 set_shown (setting.Capacity capacity) front shared guests live told n guest e uncalled is = put_shown front shared guests live told n guest (configured (setting.Capacity capacity) guest) e (nothing_stands capacity ∙ sym (nothing_yet guest (live n) is uncalled)) refl refl
+set_shown other front shared guests live told n guest e uncalled is = put_shown front shared guests live told n guest (configured other guest) e refl refl refl ∙ same_capacity front shared guests live told n guest e
 
 configured_on : (input : List ℕ) (n : ℕ) (it : Setting) (host : Host) (told : Told) (at : At input host told) (o : Option Guest) → guests_of host.guests n ≡ o → may_stand (names_of host) (line.Configure n it) ≡ true → StepOn input (line.Configure n it) host told at
 configured_on input n it host told at None e fits = absurd (true≢false (sym (first_of _ _ (first_of (may_set_up (names_of host) n) _ fits)) ∙ ap is_some e))

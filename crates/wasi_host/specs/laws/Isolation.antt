@@ -218,7 +218,7 @@ OutputApart mine own other = Unit {0}
 abbrev SettingApart : (List ℕ → Bool) → Bool → Setting → Type 0
 SettingApart mine own (setting.Stdout it) = OutputApart mine own it
 SettingApart mine own (setting.Stderr it) = OutputApart mine own it
-SettingApart mine own (setting.Capacity capacity) = Unit {0}
+SettingApart mine own other = Unit {0}
 
 abbrev LineApart : (List ℕ → Bool) → ℕ → Line → Type 0
 LineApart mine g (line.Guest k it) = InputApart mine (nat_eq k g) it
@@ -524,15 +524,12 @@ module _ (mine : List ℕ → Bool) (g : ℕ) where
   setting_named : (b : Bool) (it : Setting) → ((name : List ℕ) → (b && setting_names it name) ≡ true → mine name ≡ true) → ((name : List ℕ) → (not b && setting_names it name) ≡ true → mine name ≡ false) → SettingApart mine b it
   setting_named b (setting.Stdout it) own other = output_named b it own other
   setting_named b (setting.Stderr it) own other = output_named b it own other
-  setting_named b (setting.Capacity capacity) own other = tt
+  setting_named b it own other = tt
 
   line_named : (step : Line) → ((name : List ℕ) → line_names (is_guest g) step name ≡ true → mine name ≡ true) → ((name : List ℕ) → line_names (is_other g) step name ≡ true → mine name ≡ false) → shares g step ≡ false → LineApart mine g step
   line_named (line.Guest k it) own other unshared = input_named (nat_eq k g) it own other unshared
   line_named (line.Configure k it) own other unshared = setting_named (nat_eq k g) it own other
-  line_named (line.Input name it) own other unshared = tt
-  line_named (line.Output name it) own other unshared = tt
-  line_named (line.Call k it) own other unshared = tt
-  line_named (line.Worker it) own other unshared = tt
+  line_named step own other unshared = tt
 
   lines_named : (steps : List Line) → ((name : List ℕ) → names_by (is_guest g) steps name ≡ true → mine name ≡ true) → ((name : List ℕ) → names_by (is_other g) steps name ≡ true → mine name ≡ false) → list_any (shares g) steps ≡ false → LinesApart mine g steps
   lines_named [] own other unshared = tt

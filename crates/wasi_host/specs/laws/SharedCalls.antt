@@ -322,7 +322,7 @@ module _ (input front : List ℕ) (shared : Shared) (guests : ℕ → Option Gue
   parent_is n wait (entry.Shared (on.Pollable w)) (Some p) may e = let same : p ≡ n = cc in ap Some same
   parent_is n wait (entry.Shared on.Reader) parent may e = absurd (cc)
   parent_is n wait (entry.Shared (on.Polled w)) parent may e = absurd (cc)
-  parent_is n wait (entry.Stream to it) parent may e = absurd (true≢false (sym (ap is_some e)))
+  parent_is n wait other parent may e = absurd (true≢false (sym (ap is_some e)))
 
   child_in : (n m : ℕ) (wait : Option ℕ) (o : Option (Row Entry)) → held_at guest.own.table m ≡ o → standing_at o ≡ Some (run.Pollable n wait) → Child guest.own.table n
   child_in n m wait None held e = absurd (true≢false (sym (ap is_some e)))

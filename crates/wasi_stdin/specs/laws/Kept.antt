@@ -11,11 +11,11 @@ use Rattle.wasi_stdin.specs.Shared.{Shared, IsSound, HoldsIn, CapturedIn, mode_h
 use Rattle.wasi_stdin.specs.Shared as told
 use Rattle.wasi_stdin.specs.Rules.{Rule, Read, Skip, PollRead, Ready, Block, Capture, Deliver, after_rule, MayFollow, IsAsked, IsWait, StaysSound, EveryRuleKeeps, after_rules, IsNoDelivery, HaveNoDelivery, RequestsOnlyGrow, faults_read, faults_polled, faults_told, faults_given, faults_delivered, all_faults_told, all_faults_delivered, new_shared, FaultsToldOnce}
 
-asked_any : (c : Option ℕ) (n k : ℕ) → CapturedIn (Asked n) c → CapturedIn (Asked k) c
+pub asked_any : (c : Option ℕ) (n k : ℕ) → CapturedIn (Asked n) c → CapturedIn (Asked k) c
 asked_any None n k h = tt
 asked_any (Some size) n k h = h
 
-asked_none : (c : Option ℕ) (k : ℕ) → c ≡ None → CapturedIn (Asked k) c
+pub asked_none : (c : Option ℕ) (k : ℕ) → c ≡ None → CapturedIn (Asked k) c
 asked_none None k h = tt
 asked_none (Some size) k h = absurd (cc)
 
@@ -144,7 +144,7 @@ every_rule_keeps Capture s wait sound may follows = let c = capture_in_sound s.m
 every_rule_keeps (Deliver g) s wait sound may follows = record { sound = deliver_sound g s s.captured (s.deliveries + 1) follows; waits = deliver_waits g s wait may; others = deliver_waits g s }
 
 -- something is asked while a size is captured
-asked_at : (m : Mode) (c : Option ℕ) (size : ℕ) → CapturedIn m c → c ≡ Some size → (n : ℕ) × (m ≡ Asked n)
+pub asked_at : (m : Mode) (c : Option ℕ) (size : ℕ) → CapturedIn m c → c ≡ Some size → (n : ℕ) × (m ≡ Asked n)
 asked_at (Asked n) c size k e = (n, refl)
 asked_at Idle c size k e = absurd (cc)
 asked_at Held c size k e = absurd (cc)

@@ -166,3 +166,24 @@ fn the_greatest_budget_is_used_whole(rt: HostRuntime) -> Result<(), Fail> {
     assert_eq!(rt; stream.turn(), WriterTurn::Took(1048576));
     Ok(())
 }
+
+#[test]
+fn the_least_and_the_greatest_reads_find_memory(rt: HostRuntime) -> Result<(), Fail> {
+    let alloc = rt.alloc();
+    let bytes = vec![in alloc; 0x7bu8; 65536]?;
+    let mut stream = reader(alloc, &bytes, &[])?;
+    assert_eq!(rt; stream.turn(), ReaderTurn::Gave(65536));
+    gives(&rt, alloc, &mut stream, 0, b"");
+    gives(&rt, alloc, &mut stream, 18446744073709551615, &bytes);
+    Ok(())
+}
+
+#[test]
+fn the_least_budget_is_used_whole(rt: HostRuntime) -> Result<(), Fail> {
+    let alloc = rt.alloc();
+    let mut stream = AsyncWriteStream::new(alloc, 1, sink(alloc, &[])?)?;
+    assert_eq!(rt; stream.check_write(), Ok(1));
+    assert_eq!(rt; stream.write(Bytes::from_static(b"a")), Ok(()));
+    assert_eq!(rt; stream.check_write(), Ok(0));
+    Ok(())
+}
