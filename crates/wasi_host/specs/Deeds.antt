@@ -81,12 +81,15 @@ dropped_at (Some it) number own =
 abbrev pub dropped : ℕ → Own → Done
 dropped number own = dropped_at (entry_at own number) number own
 
--- what is done of a deed for a call that is not on the shared input: no entry on that is made or changed
 abbrev pub is_shared : Entry → Bool
 is_shared (entry.Shared it) = true
 is_shared other = false
 
+abbrev pub is_on_shared : Deed → Bool
+is_on_shared (Tell it) = false
+is_on_shared (Make it parent) = is_shared it
+is_on_shared (Change number it answer) = is_shared it
+
+-- what is done of a deed for a call that is not on the shared input: no entry on that is made or changed
 abbrev pub apart : Deed → Deed
-apart (Tell it) = Tell it
-apart (Make it parent) = cond (is_shared it) (Tell (told.Trap ResourceWrongType)) (Make it parent)
-apart (Change number it answer) = cond (is_shared it) (Tell (told.Trap ResourceWrongType)) (Change number it answer)
+apart deed = cond (is_on_shared deed) (Tell (told.Trap ResourceWrongType)) deed

@@ -1,5 +1,5 @@
 ghost use Rattle.std.specs.Prelude.{◌≡◌};
-ghost use Rattle.wasi_host.specs.Deeds.{apart};
+ghost use Rattle.wasi_host.specs.Deeds.{apart, is_on_shared};
 
 use crate::Entry;
 use wasi_base::TrapText;
@@ -26,37 +26,23 @@ pub enum Deed {
 impl Deed {
     /// What is done of it for a call that is not on the shared input: no entry on that is made or
     /// changed.
+    #[inline]
     pub fn apart(self) -> Deed
         ensures { result ≡ apart self }
     {
+        if self.is_on_shared() {
+            return Deed::Tell(Told::Trap(TrapText::ResourceWrongType));
+        }
+        self
+    }
+
+    // Whether it makes or changes an entry on the shared input.
+    fn is_on_shared(&self) -> bool
+        ensures { result ≡ is_on_shared self.now }
+    {
         match self {
-            Deed::Tell(told) => Deed::Tell(told),
-            Deed::Make { entry, parent } => {
-                if entry.is_shared() {
-                    return mistaken();
-                }
-                Deed::Make { entry, parent }
-            }
-            Deed::Change {
-                number,
-                entry,
-                told,
-            } => {
-                if entry.is_shared() {
-                    return mistaken();
-                }
-                Deed::Change {
-                    number,
-                    entry,
-                    told,
-                }
-            }
+            Deed::Tell(_) => false,
+            Deed::Make { entry, .. } | Deed::Change { entry, .. } => entry.is_shared(),
         }
     }
-}
-
-fn mistaken() -> Deed
-    ensures { result ≡ Deed.Tell (Told.Trap TrapText.ResourceWrongType) }
-{
-    Deed::Tell(Told::Trap(TrapText::ResourceWrongType))
 }

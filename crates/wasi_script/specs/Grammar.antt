@@ -147,13 +147,12 @@ other_lines =
     ∷ (codes "stdout", setting_of output_of setting.Stdout)
     ∷ (codes "stderr", setting_of output_of setting.Stderr)
     ∷ (codes "capacity", setting_of capacity_of setting.Capacity)
-    ∷ (codes "call", call_line_of)
     ∷ (codes "capture", without_fields (line.Worker turn.Capture))
     ∷ (codes "deliver", without_fields (line.Worker turn.Deliver))
     ∷ []
 
 abbrev pub line_of : List (List ℕ) → Option Line
-line_of = meaning_by (stream_lines ++ other_lines)
+line_of = meaning_by ((codes "call", call_line_of) ∷ stream_lines ++ other_lines)
 
 abbrev pub step_or_invalid : Option Line → Reading
 step_or_invalid None = Invalid

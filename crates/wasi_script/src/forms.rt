@@ -46,7 +46,9 @@ fn parse_line(alloc: Global, mut words: Parts) -> Result<Line, Refusal>
     ensures { Reads result (line_of words.entry) }
 {
     let word = words.next().ok_or(Refusal::Invalid)?;
-    if is(word, b"pipe") {
+    if is(word, b"call") {
+        parse_call_line(alloc, words)
+    } else if is(word, b"pipe") {
         parse_pipe(alloc, words)
     } else if is(word, b"infile") {
         parse_in_file(alloc, words)
@@ -78,8 +80,6 @@ fn parse_other_line(alloc: Global, word: &[u8], words: Parts) -> Result<Line, Re
     } else if is(word, b"capacity") {
         let (guest, capacity) = guest_and_capacity(words).ok_or(Refusal::Invalid)?;
         Ok(configure(guest, Setting::Capacity(capacity)))
-    } else if is(word, b"call") {
-        parse_call_line(alloc, words)
     } else if is(word, b"capture") {
         worker(words, WorkerTurn::Capture)
     } else if is(word, b"deliver") {

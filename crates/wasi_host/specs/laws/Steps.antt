@@ -84,7 +84,8 @@ changed_some change None = refl
 changed_some change (Some guest) = refl
 
 configured_called : (it : Setting) (guest : Guest) → guest.was_called ≡ (configured it guest).was_called
-configured_called it guest = refl
+configured_called (setting.Capacity capacity) guest = refl
+configured_called other guest = refl
 
 changed_called : (it : Setting) (o : Option Guest) → was_called_in o ≡ was_called_in (option_map (configured it) o)
 changed_called it None = refl
