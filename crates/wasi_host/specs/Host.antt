@@ -65,9 +65,9 @@ abbrev pub new_guest : Input → Guest
 new_guest input = record { settings = record { input = input; stdout = output.Empty; stderr = output.Empty }; own = record { table = new_table 1024 }; was_called = false; ended = false }
 
 abbrev pub configured : Setting → Guest → Guest
-configured (setting.Stdout it) guest = record { settings = record { input = guest.settings.input; stdout = it; stderr = guest.settings.stderr }; own = guest.own; was_called = guest.was_called; ended = guest.ended }
-configured (setting.Stderr it) guest = record { settings = record { input = guest.settings.input; stdout = guest.settings.stdout; stderr = it }; own = guest.own; was_called = guest.was_called; ended = guest.ended }
-configured (setting.Capacity capacity) guest = record { settings = guest.settings; own = record { table = new_table capacity }; was_called = guest.was_called; ended = guest.ended }
+configured (setting.Stdout it) guest = record guest { settings = record guest.settings { stdout = it } }
+configured (setting.Stderr it) guest = record guest { settings = record guest.settings { stderr = it } }
+configured (setting.Capacity capacity) guest = record guest { own = record { table = new_table capacity } }
 
 -- ---- the declared streams with their names, each list in order of declaration
 abbrev pub Named : Type 0 → Type 0
@@ -90,7 +90,7 @@ input_at (input.Named name) streams = taken_out in_stream.Closed name streams.in
 input_at other streams = in_stream.Closed
 
 abbrev pub put_input : Input → InStream → Streams → Streams
-put_input (input.Named name) it streams = record { inputs = put_back name it streams.inputs; outputs = streams.outputs }
+put_input (input.Named name) it streams = record streams { inputs = put_back name it streams.inputs }
 put_input other it streams = streams
 
 -- the stream that an output of a guest is: one that keeps nothing, a closed one, or a declared one
@@ -100,7 +100,7 @@ output_at (output.Named name) streams = taken_out out_stream.Closed name streams
 output_at other streams = out_stream.Sink
 
 abbrev pub put_output : Output → OutStream → Streams → Streams
-put_output (output.Named name) it streams = record { inputs = streams.inputs; outputs = put_back name it streams.outputs }
+put_output (output.Named name) it streams = record streams { outputs = put_back name it streams.outputs }
 put_output other it streams = streams
 
 -- ---- the host: the shared input, the guests by their numbers, and the streams
@@ -128,7 +128,7 @@ abbrev pub left_own : Reply → Own → Own
 left_own reply own = cond (ends reply) (record { table = new_table own.table.capacity }) own
 
 abbrev pub left_guest : Guest → Reply → Own → Guest
-left_guest guest reply own = record { settings = guest.settings; own = left_own reply own; was_called = true; ended = ends reply }
+left_guest guest reply own = record guest { own = left_own reply own; was_called = true; ended = ends reply }
 
 -- what a call did to its guest, and what it left of all else
 abbrev pub settled : Guest → Done → Shared → Streams → Answered
@@ -172,7 +172,7 @@ answer_to rules (call.Own it) g guest shared streams = settled guest (act (apart
 
 -- a guest that ended is told so, and nothing else happens
 abbrev pub answer_by : Bool → Rules → Call → ℕ → Guest → Shared → Streams → Answered
-answer_by true rules it g guest shared streams = record { reply = reply.Ended; guest = record { settings = guest.settings; own = guest.own; was_called = true; ended = guest.ended }; shared = shared; streams = streams }
+answer_by true rules it g guest shared streams = record { reply = reply.Ended; guest = record guest { was_called = true }; shared = shared; streams = streams }
 answer_by false rules it g guest shared streams = answer_to rules it g guest shared streams
 
 -- a guest, taken out of the host and put back
@@ -207,13 +207,13 @@ new_output (declared_out.File room plan) = out_stream.File (new_outlet room plan
 new_output (declared_out.Stdio room plan) = out_stream.Stdio (new_outlet room plan)
 
 abbrev pub with_input : List ℕ → InStream → Host → Host
-with_input name it host = record { shared = host.shared; guests = host.guests; streams = record { inputs = host.streams.inputs ++ (name, it) ∷ []; outputs = host.streams.outputs } }
+with_input name it host = record host { streams = record host.streams { inputs = host.streams.inputs ++ (name, it) ∷ [] } }
 
 abbrev pub with_output : List ℕ → OutStream → Host → Host
-with_output name it host = record { shared = host.shared; guests = host.guests; streams = record { inputs = host.streams.inputs; outputs = host.streams.outputs ++ (name, it) ∷ [] } }
+with_output name it host = record host { streams = record host.streams { outputs = host.streams.outputs ++ (name, it) ∷ [] } }
 
 abbrev pub with_guest : ℕ → Option Guest → Host → Host
-with_guest g guest host = record { shared = host.shared; guests = set host.guests g guest; streams = host.streams }
+with_guest g guest host = record host { guests = set host.guests g guest }
 
 -- ---- the worker
 abbrev pub captured_told : Option ℕ → Worked
@@ -253,7 +253,7 @@ host_by rules (line.Output name it) host given = with_output name (new_output it
 host_by rules (line.Guest g input) host given = with_guest g (Some (new_guest input)) host
 host_by rules (line.Configure g it) host given = with_guest g (option_map (configured it) (guest_of host g)) host
 host_by rules (line.Call g it) host given = called_in rules it g host
-host_by rules (line.Worker it) host given = record { shared = after_turn it host.shared given; guests = host.guests; streams = host.streams }
+host_by rules (line.Worker it) host given = record host { shared = after_turn it host.shared given }
 
 abbrev pub reply_to : Line → Host → Given → Reply
 reply_to = reply_by the_rules
