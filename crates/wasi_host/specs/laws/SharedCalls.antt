@@ -366,4 +366,4 @@ module _ (input front : List ℕ) (shared : Shared) (guests : ℕ → Option Gue
       by (entry.Shared on.Reader) parent held = drops n (entry.Shared on.Reader) parent _ held (λ has. inl (has_pollable n (ap entry_in held) (child_of guest.own.table n has), refl, refl)) (λ none s' e. inr (no_pollable n none, refl, e))
       by (entry.Shared (on.Polled wait)) parent held = drops n (entry.Shared (on.Polled wait)) parent _ held (λ has. absurd (childless n (entry.Shared (on.Polled wait)) parent held (λ child. none_polled child wait) has)) (λ none s' e. (refl, e))
       by (entry.Shared (on.Pollable wait)) parent held = drops n (entry.Shared (on.Pollable wait)) parent _ held (λ has. absurd (childless n (entry.Shared (on.Pollable wait)) parent held (λ child. none_pollable child wait) has)) (λ none s' e. (refl, e))
-      by (entry.Stream to it) parent held = drops n (entry.Stream to it) parent _ held (λ has. refl) (λ none s' e. e ∙ without_none n (standing_there n ∙ ap standing_at held))
+      by other parent held = drops n other parent _ held (λ has. refl) (λ none s' e. e ∙ without_none n (standing_there n ∙ ap standing_at held))

@@ -34,7 +34,7 @@ abbrev pub standing_by : Entry → Option ℕ → Option Standing
 standing_by (entry.Shared on.Reader) parent = Some run.Reader
 standing_by (entry.Shared (on.Polled wait)) parent = Some (run.Polled wait)
 standing_by (entry.Shared (on.Pollable wait)) parent = Some (run.Pollable (parent_or parent) wait)
-standing_by (entry.Stream to it) parent = None
+standing_by other parent = None
 
 abbrev pub standing_at : Option (Row Entry) → Option Standing
 standing_at None = None
