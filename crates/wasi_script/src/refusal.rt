@@ -1,10 +1,10 @@
 use std::alloc::{AllocError, AllocFailed};
 use wasi_base::OutOfMemory;
 
-/// Why a part of a line isn't read.
+/// Why there is no such line, or no such part of a line.
 #[derive(Clone, Copy, Debug, PartialEq, Eq, Drop)]
 pub enum Refusal {
-    /// It is of no form.
+    /// It is not valid.
     Invalid,
     OutOfMemory,
 }
