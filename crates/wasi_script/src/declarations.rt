@@ -1,11 +1,100 @@
-ghost use Rattle.std.specs.Prelude.{◌≡◌, true, OnOk, OnErr};
-ghost use Rattle.wasi_script.specs.Grammar.{may_stand, may_declare, may_set_up, input_stands, output_stands, setting_stands, names_after, no_names};
+ghost use Rattle.std.specs.Prelude.{◌≡◌, ◌+◌, length, true, OnOk, OnErr};
+ghost use Rattle.wasi_script.specs.Grammar.{Names, may_stand, may_declare, may_set_up, input_stands, output_stands, setting_stands, names_after, no_names, is_among};
 
 use crate::lines::{Input, Line, Output, Setting};
 use crate::name::Name;
 use crate::name_set::NameSet;
 use std::alloc::Global;
 use wasi_base::OutOfMemory;
+
+/// Something that knows which guests, inputs and outputs there are, and which guests have called:
+/// what a parser took down of the lines so far, or a session that did them.
+pub trait Declared {
+    /// The names of what was declared.
+    ghost names: { Self → Names };
+
+    /// How many inputs and outputs there are together.
+    fn stream_count(&self) -> usize
+        ensures { result ≡ length (names self.now).inputs + length (names self.now).outputs };
+
+    /// Whether there is an input of this name.
+    fn has_input(&self, name: &[u8]) -> bool
+        ensures { result ≡ is_among name.now (names self.now).inputs };
+
+    /// Whether there is an output of this name.
+    fn has_output(&self, name: &[u8]) -> bool
+        ensures { result ≡ is_among name.now (names self.now).outputs };
+
+    /// Whether there is a guest of this number.
+    fn has_guest(&self, guest: u32) -> bool
+        ensures { result ≡ (names self.now).is_guest guest };
+
+    /// Whether the guest of this number has called.
+    fn was_called(&self, guest: u32) -> bool
+        ensures { result ≡ (names self.now).was_called guest };
+
+    /// Whether a line may stand after what was declared.
+    final fn allow(&self, line: &Line) -> bool
+        ensures { result ≡ may_stand (names self.now) line.now }
+    {
+        match line {
+            Line::Input { name, .. } | Line::Output { name, .. } => self.allow_name(name),
+            Line::Guest { guest, input } => {
+                *guest < 64 && (!self.has_guest(*guest) && self.allow_input(input))
+            }
+            Line::Configure { guest, setting } => {
+                self.allow_set_up(*guest) && self.allow_setting(setting)
+            }
+            Line::Call { guest, call: _ } => self.has_guest(*guest),
+            Line::Worker(_) => true,
+        }
+    }
+
+    /// Whether a stream may be declared under a name.
+    final fn allow_name(&self, name: &Name) -> bool
+        ensures { result ≡ may_declare (names self.now) name.now }
+    {
+        let name = name.as_bytes();
+        self.stream_count() < 64 && (!self.has_input(name) && !self.has_output(name))
+    }
+
+    /// Whether lines may say more of a guest.
+    final fn allow_set_up(&self, guest: u32) -> bool
+        ensures { result ≡ may_set_up (names self.now) guest }
+    {
+        self.has_guest(guest) && !self.was_called(guest)
+    }
+
+    /// Whether they may say this of it.
+    final fn allow_setting(&self, setting: &Setting) -> bool
+        ensures { result ≡ setting_stands (names self.now) setting.now }
+    {
+        match setting {
+            Setting::Stdout(output) | Setting::Stderr(output) => self.allow_output(output),
+            Setting::Capacity(capacity) => 1 <= *capacity && *capacity <= 65536,
+        }
+    }
+
+    /// Whether a guest may have this input.
+    final fn allow_input(&self, input: &Input) -> bool
+        ensures { result ≡ input_stands (names self.now) input.now }
+    {
+        match input {
+            Input::Shared | Input::Empty | Input::Closed => true,
+            Input::Named(name) => self.has_input(name.as_bytes()),
+        }
+    }
+
+    /// Whether a guest may have this output.
+    final fn allow_output(&self, output: &Output) -> bool
+        ensures { result ≡ output_stands (names self.now) output.now }
+    {
+        match output {
+            Output::Empty | Output::Sink | Output::Closed => true,
+            Output::Named(name) => self.has_output(name.as_bytes()),
+        }
+    }
+}
 
 /// What the lines so far declared: guests, inputs and outputs; and which of the guests have called.
 #[derive(Drop)]
@@ -14,6 +103,32 @@ pub struct Declarations {
     called: [bool; 64],
     inputs: NameSet,
     outputs: NameSet,
+}
+
+impl Declared for Declarations {
+    ghost use Rattle.wasi_script.specs.Declarations.{names_in};
+
+    ghost names = { names_in };
+
+    fn stream_count(&self) -> usize {
+        self.inputs.len() + self.outputs.len()
+    }
+
+    fn has_input(&self, name: &[u8]) -> bool {
+        self.inputs.contains(name)
+    }
+
+    fn has_output(&self, name: &[u8]) -> bool {
+        self.outputs.contains(name)
+    }
+
+    fn has_guest(&self, guest: u32) -> bool {
+        guest < 64 && self.declared[guest as usize]
+    }
+
+    fn was_called(&self, guest: u32) -> bool {
+        guest < 64 && self.called[guest as usize]
+    }
 }
 
 impl Declarations {
@@ -27,69 +142,6 @@ impl Declarations {
             called: [false; 64],
             inputs: NameSet::none(alloc),
             outputs: NameSet::none(alloc),
-        }
-    }
-
-    /// Whether a line may stand after the lines so far.
-    pub fn allow(&self, line: &Line) -> bool
-        ensures { result ≡ may_stand (names_in self.now) line.now }
-    {
-        match line {
-            Line::Input { name, .. } | Line::Output { name, .. } => self.allow_name(name),
-            Line::Guest { guest, input } => {
-                *guest < 64 && (!self.declared[*guest as usize] && self.allow_input(input))
-            }
-            Line::Configure { guest, setting } => {
-                self.allow_set_up(*guest) && self.allow_setting(setting)
-            }
-            Line::Call { guest, call: _ } => *guest < 64 && self.declared[*guest as usize],
-            Line::Worker(_) => true,
-        }
-    }
-
-    // Whether a stream may be declared under a name.
-    fn allow_name(&self, name: &Name) -> bool
-        ensures { result ≡ may_declare (names_in self.now) name.now }
-    {
-        let name = name.as_bytes();
-        self.inputs.len() + self.outputs.len() < 64
-            && (!self.inputs.contains(name) && !self.outputs.contains(name))
-    }
-
-    // Whether lines may say more of a guest.
-    fn allow_set_up(&self, guest: u32) -> bool
-        ensures { result ≡ may_set_up (names_in self.now) guest }
-    {
-        guest < 64 && (self.declared[guest as usize] && !self.called[guest as usize])
-    }
-
-    // Whether they may say this of it.
-    fn allow_setting(&self, setting: &Setting) -> bool
-        ensures { result ≡ setting_stands (names_in self.now) setting.now }
-    {
-        match setting {
-            Setting::Stdout(output) | Setting::Stderr(output) => self.allow_output(output),
-            Setting::Capacity(capacity) => 1 <= *capacity && *capacity <= 65536,
-        }
-    }
-
-    // Whether a guest may have this input.
-    fn allow_input(&self, input: &Input) -> bool
-        ensures { result ≡ input_stands (names_in self.now) input.now }
-    {
-        match input {
-            Input::Shared | Input::Empty | Input::Closed => true,
-            Input::Named(name) => self.inputs.contains(name.as_bytes()),
-        }
-    }
-
-    // Whether a guest may have this output.
-    fn allow_output(&self, output: &Output) -> bool
-        ensures { result ≡ output_stands (names_in self.now) output.now }
-    {
-        match output {
-            Output::Empty | Output::Sink | Output::Closed => true,
-            Output::Named(name) => self.outputs.contains(name.as_bytes()),
         }
     }
 

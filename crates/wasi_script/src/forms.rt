@@ -112,7 +112,7 @@ fn worker(words: Parts, turn: WorkerTurn) -> Result<Line, Refusal>
 fn parse_pipe(alloc: Global, mut words: Parts) -> Result<Line, Refusal>
     ensures { Reads result (pipe_of words.entry) }
 {
-    let name = Name::read(alloc, words.next().ok_or(Refusal::Invalid)?)?;
+    let name = Name::new(alloc, words.next().ok_or(Refusal::Invalid)?)?;
     let bytes = ByteString::read_declared(alloc, only(words).ok_or(Refusal::Invalid)?)?;
     let input = InputDeclaration::Pipe { bytes };
     Ok(Line::Input { name, input })
@@ -121,7 +121,7 @@ fn parse_pipe(alloc: Global, mut words: Parts) -> Result<Line, Refusal>
 fn parse_in_file(alloc: Global, mut words: Parts) -> Result<Line, Refusal>
     ensures { Reads result (in_file_of words.entry) }
 {
-    let name = Name::read(alloc, words.next().ok_or(Refusal::Invalid)?)?;
+    let name = Name::new(alloc, words.next().ok_or(Refusal::Invalid)?)?;
     let bytes = ByteString::read_declared(alloc, words.next().ok_or(Refusal::Invalid)?)?;
     let plan = ReadPlan::read(alloc, only(words).ok_or(Refusal::Invalid)?)?;
     let input = InputDeclaration::File { bytes, plan };
@@ -131,7 +131,7 @@ fn parse_in_file(alloc: Global, mut words: Parts) -> Result<Line, Refusal>
 fn parse_out_pipe(alloc: Global, mut words: Parts) -> Result<Line, Refusal>
     ensures { Reads result (out_pipe_of words.entry) }
 {
-    let name = Name::read(alloc, words.next().ok_or(Refusal::Invalid)?)?;
+    let name = Name::new(alloc, words.next().ok_or(Refusal::Invalid)?)?;
     let word = only(words).ok_or(Refusal::Invalid)?;
     let capacity = parse_room(word).ok_or(Refusal::Invalid)?;
     Ok(output(name, OutputDeclaration::Pipe { capacity }))
@@ -140,7 +140,7 @@ fn parse_out_pipe(alloc: Global, mut words: Parts) -> Result<Line, Refusal>
 fn name_room_and_plan(alloc: Global, mut words: Parts) -> Result<(Name, u64, WritePlan), Refusal>
     ensures { Reads result (sink_fields words.entry) }
 {
-    let name = Name::read(alloc, words.next().ok_or(Refusal::Invalid)?)?;
+    let name = Name::new(alloc, words.next().ok_or(Refusal::Invalid)?)?;
     let word = words.next().ok_or(Refusal::Invalid)?;
     let room = parse_room(word).ok_or(Refusal::Invalid)?;
     let plan = WritePlan::read(alloc, only(words).ok_or(Refusal::Invalid)?)?;
@@ -312,7 +312,7 @@ fn parse_input(alloc: Global, word: &[u8]) -> Result<Input, Refusal>
     } else if is(word, b"closed") {
         Ok(Input::Closed)
     } else {
-        let name = Name::read(alloc, word)?;
+        let name = Name::new(alloc, word)?;
         Ok(Input::Named(name))
     }
 }
@@ -327,7 +327,7 @@ fn parse_output(alloc: Global, word: &[u8]) -> Result<Output, Refusal>
     } else if is(word, b"closed") {
         Ok(Output::Closed)
     } else {
-        let name = Name::read(alloc, word)?;
+        let name = Name::new(alloc, word)?;
         Ok(Output::Named(name))
     }
 }

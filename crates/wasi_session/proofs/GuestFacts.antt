@@ -28,8 +28,8 @@ configured_done (Err e) host n setting guest left it within is some done = tt
 configured_done (Ok done) host n setting guest left it within is some left_is =
     rw (there host.guests n it within is, some, left_is) refl
 
--- a name that may be declared names no stream yet
-among_is : {A : Type 0} (name : List ℕ) (named : Named A) → is_among name (names_in named) ≡ is_some (lookup (bytes_eq name) named)
+-- a name among those of streams is found by it
+pub among_is : {A : Type 0} (name : List ℕ) (named : Named A) → is_among name (names_in named) ≡ is_some (lookup (bytes_eq name) named)
 among_is name [] = refl
 among_is {A} name (row ∷ named) = by (bytes_eq name row.0) (among_is name named)
   where
@@ -37,6 +37,7 @@ among_is {A} name (row ∷ named) = by (bytes_eq name row.0) (among_is name name
     by true rest = refl
     by false rest = rest
 
+-- a name that may be declared names no stream yet
 none_of : {A : Type 0} (o : Option A) → is_some o ≡ false → o ≡ None
 none_of None e = refl
 none_of (Some x) e = absurd (cc)

@@ -1,11 +1,13 @@
 -- A stream among the rows of a map by name: found, written, and one more.
-use Rattle.std.proofs.Common.{◌≡◌, ℕ, Bool, true, false, cond, List, [], ◌∷◌, ◌++◌, Some, None, Result, Ok, Err, refl, ap, sym, ◌∙◌, true≢false}
+use Rattle.std.proofs.Common.{◌≡◌, ℕ, suc, length, Bool, true, false, cond, List, [], ◌∷◌, ◌++◌, Some, None, Result, Ok, Err, refl, ap, sym, ◌∙◌, true≢false}
 use Rattle.std.specs.Prelude.{IfOk, OnOk, OnErr, is_some, unwrap_or, Vec}
 use Rattle.std.specs.Map.{lookup, set_value}
 use Rattle.std.specs.Str.{bytes_eq}
 use Rattle.indexmap.specs.IndexMap.{insert_entry}
-use Rattle.wasi_host.specs.Host.{Named, Streams, taken_out, put_back}
+use Rattle.wasi_script.specs.Grammar.{is_among}
+use Rattle.wasi_host.specs.Host.{Named, Streams, names_in, taken_out, put_back}
 use Rattle.wasi_session.specs.Rows.{rows_of}
+use Rattle.wasi_session.proofs.GuestFacts.{among_is}
 
 module _ {K V : Type 0} (test : K → Bool) where
   pub absent_same : (es : List (K × V)) (w : V) → lookup test es ≡ None → set_value test es w ≡ es
@@ -44,6 +46,14 @@ rows_push {A} {V} (row ∷ es) key it e = by (λ e. rows_push es key it e) (byte
     by : (lookup (bytes_eq key.items) (rows_of es) ≡ None → rows_of (insert_entry (λ (a b : Vec ℕ A). bytes_eq a.items b.items) es key it) ≡ rows_of es ++ (key.items, it) ∷ []) → (b : Bool) → cond b (Some row.1) (lookup (bytes_eq key.items) (rows_of es)) ≡ None → rows_of (cond b ((row.0, it) ∷ es) (row ∷ insert_entry (λ (a b : Vec ℕ A). bytes_eq a.items b.items) es key it)) ≡ ((row.0.items, row.1) ∷ rows_of es) ++ (key.items, it) ∷ []
     by rest true e = absurd (true≢false (ap is_some e))
     by rest false e = ap (λ es. (row.0.items, row.1) ∷ es) (rest e)
+
+-- the names of the rows: which there are, and how many
+pub row_named : {A S : Type 0} (es : List (Vec ℕ A × S)) (name : List ℕ) → is_some (lookup (λ (key : Vec ℕ A). bytes_eq name key.items) es) ≡ is_among name (names_in (rows_of es))
+row_named es name = ap is_some (sym (rows_lookup name es)) ∙ sym (among_is name (rows_of es))
+
+pub rows_counted : {A S : Type 0} (es : List (Vec ℕ A × S)) → length es ≡ length (names_in (rows_of es))
+rows_counted [] = refl
+rows_counted (row ∷ es) = ap suc (rows_counted es)
 
 -- a new row
 pub row_added : {A V : Type 0} (es es' : List (Vec ℕ A × V)) (now : List (List ℕ × V)) (key : Vec ℕ A) (name : List ℕ) (it : V) → rows_of es ≡ now → key.items ≡ name → lookup (bytes_eq name) now ≡ None → es' ≡ insert_entry (λ (a b : Vec ℕ A). bytes_eq a.items b.items) es key it → rows_of es' ≡ now ++ (name, it) ∷ []

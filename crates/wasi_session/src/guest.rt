@@ -60,6 +60,13 @@ impl Guest {
         }
     }
 
+    /// Whether the guest has called.
+    pub fn was_called(&self) -> bool
+        ensures { result ≡ self.now.was_called }
+    {
+        self.was_called
+    }
+
     /// Takes over what a line says of the guest. Out of memory leaves it as it was.
     pub fn configure(&mut self, alloc: Global, setting: &Setting) -> Result<(), OutOfMemory>
         requires { CapacityFits setting.now }

@@ -1,11 +1,12 @@
-ghost use Rattle.std.specs.Prelude.{◌≡◌, ◌∷◌, ◌++◌, [], None, IfOk, OnOk, OnErr, length, take};
+ghost use Rattle.std.specs.Prelude.{◌≡◌, ◌+◌, ◌∷◌, ◌++◌, [], None, IfOk, OnOk, OnErr, length, take};
 ghost use Rattle.std.specs.Map.{lookup};
 ghost use Rattle.std.specs.Str.{bytes_eq};
+ghost use Rattle.wasi_script.specs.Grammar.{is_among};
 ghost use Rattle.wasi_reply.specs.Outputs.{output_line, output_lines};
 ghost use Rattle.wasi_host.specs.declared.stream.InStream.TheVariants as in_stream;
 ghost use Rattle.wasi_host.specs.declared.stream.OutStream.TheVariants as out_stream;
 ghost use Rattle.wasi_host.specs.Calls.{called, sent};
-ghost use Rattle.wasi_host.specs.Host.{taken_out, put_back};
+ghost use Rattle.wasi_host.specs.Host.{names_in, taken_out, put_back};
 ghost use Rattle.wasi_host.specs.Transcript.{outputs_of};
 ghost use Rattle.wasi_session.specs.Makes.{IsMake};
 ghost use Rattle.wasi_session.specs.StreamCalls.{input_doing, output_doing};
@@ -49,6 +50,27 @@ impl Streams {
             inputs: IndexMap::new(alloc),
             outputs: IndexMap::new(alloc),
         }
+    }
+
+    /// How many there are, of both kinds.
+    pub fn count(&self) -> usize
+        ensures { result ≡ length (names_in self.now.inputs) + length (names_in self.now.outputs) }
+    {
+        self.inputs.len() + self.outputs.len()
+    }
+
+    /// Whether there is an input of this name.
+    pub fn has_input(&self, name: &[u8]) -> bool
+        ensures { result ≡ is_among name.now (names_in self.now.inputs) }
+    {
+        self.inputs.contains_key(name)
+    }
+
+    /// Whether there is an output of this name.
+    pub fn has_output(&self, name: &[u8]) -> bool
+        ensures { result ≡ is_among name.now (names_in self.now.outputs) }
+    {
+        self.outputs.contains_key(name)
     }
 
     /// An input of a new name.
