@@ -1,5 +1,6 @@
 mod OutcomeFacts
 mod KeptFacts
+pub mod MadeFacts
 mod ListFacts
 pub mod StayFacts
 mod StoreFacts

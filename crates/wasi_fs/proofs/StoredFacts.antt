@@ -3,7 +3,8 @@ use Rattle.std.proofs.Common.{ℕ, List, Result, Ok, Err, refl, ◌∙◌}
 use Rattle.wasi_fs_types.specs.declared.error_code.ErrorCode.{ErrorCode}
 use Rattle.wasi_fs_nodes.specs.declared.store_error.StoreError.{StoreError}
 use Rattle.wasi_fs_nodes.specs.declared.store_error.StoreError.TheVariants as store
-use Rattle.wasi_fs.specs.Stores.{Write, Fault, Refusal, Nothing, Bytes, after_read, after_write, unless_no_memory}
+use Rattle.wasi_fs_nodes.specs.Writes.{Write, Fault, Refusal, Nothing, Bytes}
+use Rattle.wasi_fs.specs.Stores.{after_read, after_write, unless_no_memory}
 use Rattle.wasi_fs.specs.TreeStore.{with_file}
 use Rattle.wasi_fs.specs.laws.Bound.{kinds_same}
 use Rattle.wasi_fs.specs.Trees.{TreeState, after_fault, KeepsDescriptors}

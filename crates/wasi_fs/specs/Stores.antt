@@ -1,21 +1,15 @@
 -- What a store of files tells, and what a read and a write of one file answer and leave.
-use Rattle.std.specs.Prelude.{ℕ, ◌+◌, ◌-◌, List, [], ◌∷◌, length, take, drop, Option, Some, None, Result, Ok, Err, Bool, true, false, cond, eqb, ltb, ◌≡◌, ◌≤◌, IsOk}
+use Rattle.std.specs.Prelude.{ℕ, ◌+◌, ◌-◌, List, length, take, drop, Option, Some, None, Result, Ok, Err, Bool, true, false, cond, eqb, ltb, ◌≡◌, ◌≤◌, IsOk}
 use Rattle.wasi_base.specs.declared.io_kind.IoKind.{IoKind}
 use Rattle.wasi_fs_types.specs.ErrorCode.{code_of_kind}
 use Rattle.wasi_fs_types.specs.declared.error_code.ErrorCode.{ErrorCode}
 use Rattle.wasi_fs_types.specs.declared.error_code.ErrorCode.TheVariants as code
-use Rattle.wasi_fs_nodes.specs.Content.{written}
+use Rattle.wasi_fs_nodes.specs.Writes.{Limits, place_in, Write, Fault, Refusal, Nothing, Bytes, write_from}
 use Rattle.wasi_fs_nodes.specs.declared.at.At.{At}
 use Rattle.wasi_fs_nodes.specs.declared.at.At.TheVariants as at
 use Rattle.wasi_fs_nodes.specs.declared.store_error.StoreError.{StoreError}
 use Rattle.wasi_fs_nodes.specs.declared.store_error.StoreError.TheVariants as store
 use Rattle.wasi_fs.specs.Trees.{risen}
-
--- the most bytes of a file, and of all files ever made; and how many bytes those have now
-pub record Limits : Type 0 where
-  pub file : ℕ
-  pub all : ℕ
-  pub total : ℕ
 
 -- what a store tells of itself: the least offset, its limits, if it has any, the fault that the next call meets, and
 -- how many faults were met. The first byte of a file stands at the least offset.
@@ -35,14 +29,10 @@ fault_of None false = None
 abbrev pub told_after_fault : Told → Told
 told_after_fault told = record { least = told.least; limits = told.limits; planned = None; faults = risen told.faults }
 
--- where a call begins: whether below the least offset, and at which place of a file's bytes
+-- whether a call begins below the least offset
 abbrev pub is_too_low : ℕ → At → Bool
 is_too_low least at.End = false
 is_too_low least (at.Offset offset) = ltb offset least
-
-abbrev pub place_in : ℕ → ℕ → At → ℕ
-place_in least size at.End = size
-place_in least size (at.Offset offset) = offset - least
 
 -- A READ gives the bytes from a place on, as many as the room, unless it meets a fault
 abbrev pub given_unless : Option ErrorCode → List ℕ → ℕ → ℕ → Result (List ℕ) ErrorCode
@@ -62,44 +52,13 @@ abbrev pub after_read : {S : Type 0} → (S → S) → S → Result (List ℕ) E
 after_read after_fault before (Ok bytes) = before
 after_read after_fault before (Err code) = after_fault before
 
--- a file's bytes with more of them from a place on; with none it is as it was
-abbrev pub after_more : List ℕ → ℕ → List ℕ → List ℕ
-after_more bytes place [] = bytes
-after_more bytes place (b ∷ more) = written bytes place (b ∷ more)
-
--- WHAT A WRITE COMES TO
-pub data Write : Type 0 where
-  -- a fault is met
-  Fault : ErrorCode → Write
-  -- a limit would be passed
-  Refusal : ErrorCode → Write
-  -- there is no byte to write
-  Nothing : Write
-  -- the file's bytes after it
-  Bytes : List ℕ → Write
-
--- the limit that a file of a size would pass when it grows to an end; that of one file counts first
-abbrev pub passed : Option Limits → ℕ → ℕ → Option ErrorCode
-passed None size end = None
-passed (Some limits) size end =
-    cond (ltb limits.file end) (Some code.FileTooLarge)
-    (cond (ltb limits.all (limits.total + (end - size))) (Some code.InsufficientSpace)
-    None)
-
-abbrev pub bytes_unless : Option ErrorCode → List ℕ → Write
-bytes_unless (Some code) bytes = Refusal code
-bytes_unless None bytes = Bytes bytes
-
-abbrev pub written_from : Option Limits → List ℕ → ℕ → List ℕ → Write
-written_from limits bytes place [] = Nothing
-written_from limits bytes place (b ∷ more) = bytes_unless (passed limits (length bytes) (place + length (b ∷ more))) (written bytes place (b ∷ more))
-
+-- A WRITE that meets no fault comes to what the write rule says
 abbrev pub write_unless : Option ErrorCode → Write → Write
 write_unless (Some code) write = Fault code
 write_unless None write = write
 
 abbrev pub write_of : Told → List ℕ → At → List ℕ → Write
-write_of told bytes to more = write_unless (fault_of told.planned (is_too_low told.least to)) (written_from told.limits bytes (place_in told.least (length bytes) to) more)
+write_of told bytes to more = write_unless (fault_of told.planned (is_too_low told.least to)) (write_from told.limits bytes (place_in told.least (length bytes) to) more)
 
 -- a write takes all its bytes, or answers a code
 abbrev pub taken : Write → ℕ → Result ℕ ErrorCode

@@ -1,10 +1,8 @@
 -- A tree as a store of its files.
 use Rattle.std.specs.Prelude.{◌≡◌, ℕ, List, Some}
-use Rattle.wasi_fs_nodes.specs.Nodes.{kind_at, bytes_at, total_bytes}
-use Rattle.wasi_fs_nodes.specs.Bodies.{with_body}
-use Rattle.wasi_fs_nodes.specs.Changes.{file_limit, tree_limit}
-use Rattle.wasi_fs_nodes.specs.declared.node.Body.{Body}
-use Rattle.wasi_fs_nodes.specs.declared.node.Body.TheVariants as body
+use Rattle.wasi_fs_nodes.specs.Nodes.{kind_at, bytes_at}
+use Rattle.wasi_fs_nodes.specs.Bodies.{with_bytes}
+use Rattle.wasi_fs_nodes.specs.Changes.{limits_of}
 use Rattle.wasi_fs_nodes.specs.declared.node.Kind.TheVariants as kind
 use Rattle.wasi_fs.specs.Stores.{Told}
 use Rattle.wasi_fs.specs.Trees.{TreeState, with_nodes}
@@ -13,7 +11,7 @@ use Rattle.wasi_fs.specs.Trees.{TreeState, with_nodes}
 abbrev pub tree_told : TreeState → Told
 tree_told tree = record {
   least = 0;
-  limits = Some (record { file = file_limit; all = tree_limit; total = total_bytes tree.nodes });
+  limits = Some (limits_of tree.nodes);
   planned = tree.planned;
   faults = tree.faults;
 }
@@ -26,10 +24,5 @@ abbrev pub bytes_of_file : TreeState → ℕ → List ℕ
 bytes_of_file tree file = bytes_at tree.nodes file
 
 -- a file with other bytes and the same times, and all else as it was
-abbrev pub body_with_bytes : List ℕ → Body → Body
-body_with_bytes now (body.File bytes) = body.File now
-body_with_bytes now (body.Directory parent names) = body.Directory parent names
-body_with_bytes now (body.Link text) = body.Link text
-
 abbrev pub with_file : TreeState → ℕ → List ℕ → TreeState
-with_file tree file now = with_nodes tree (with_body (body_with_bytes now) tree.nodes file)
+with_file tree file now = with_nodes tree (with_bytes tree.nodes file now)

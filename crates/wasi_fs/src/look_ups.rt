@@ -1,6 +1,6 @@
-ghost use Rattle.std.specs.Prelude.{◌≡◌, ◌<◌, length, cond, Ok, IfOk, option_map};
+ghost use Rattle.std.specs.Prelude.{◌≡◌, ◌<◌, length, cond, Ok, IfOk, IsOk, option_map};
 ghost use Rattle.std.specs.Option.{ok_or};
-ghost use Rattle.wasi_fs.specs.Flags.{flags_of_mode, flags_of_perms};
+ghost use Rattle.wasi_fs.specs.Flags.{follows, flags_of_mode, flags_of_perms};
 ghost use Rattle.wasi_fs.specs.LookUps.{found_at, advised, flags_in, type_in, type_of, stat_told, stat_of, stat_found, link_read, is_same, hash_of, hash_found};
 ghost use Rattle.wasi_fs.specs.Outcome.{told, Answers};
 ghost use Rattle.wasi_fs.specs.Trees.{IsOf, IsOfIfHere, IsDirOf, as_directory, node_in};
@@ -170,7 +170,8 @@ impl Tree {
     }
 
     fn stat_of(&self, node: u64) -> Result<DescriptorStat, ErrorCode>
-        ensures { result ≡ stat_of self.now.nodes node }
+        ensures is { result ≡ stat_of self.now.nodes node }
+        ensures always { node < length self.now.nodes → IsOk result }
     {
         match self.nodes().stat(node) {
             Some(stat) => Ok(stat_told(stat)),
@@ -178,10 +179,12 @@ impl Tree {
         }
     }
 
-    /// What is known of a descriptor's node.
+    /// What is known of a descriptor's node. It is never refused.
+    #[tactic(auto, using(crate::proofs::MadeFacts::node_made))]
     pub fn stat(&self, at: &Descriptor) -> FilesystemResult<DescriptorStat>
         requires { IsOf self.now at.now }
-        ensures { result ≡ told (stat_of self.now.nodes (node_in at.now)) }
+        ensures is { result ≡ told (stat_of self.now.nodes (node_in at.now)) }
+        ensures always { IsOk result }
     {
         told(self.stat_of(at.node()))
     }
@@ -190,7 +193,7 @@ impl Tree {
     ///
     /// # Errors
     ///
-    /// `NotDirectory` for a file, then the path's refusal.
+    /// `NotDirectory` for a file, then the path's refusal, and nothing where the path names a node.
     pub fn stat_at(
         &self,
         at: &Descriptor,
@@ -198,7 +201,8 @@ impl Tree {
         path: &str,
     ) -> FilesystemResult<DescriptorStat>
         requires { IsOf self.now at.now }
-        ensures { result ≡ told (stat_found self.now.nodes at.now flags path.now) }
+        ensures is { result ≡ told (stat_found self.now.nodes at.now flags path.now) }
+        ensures found { IsOk (found_at self.now.nodes at.now (follows flags) path.now) → IsOk result }
     {
         match self.find_at(at, flags.contains(PathFlags::SYMLINK_FOLLOW), path) {
             Ok(node) => told(self.stat_of(node)),

@@ -1,7 +1,8 @@
-ghost use Rattle.std.specs.Prelude.{◌≡◌, ◌≤◌, ◌-◌, length, take, drop, cond, is_some, OnOk, OnErr};
+ghost use Rattle.std.specs.Prelude.{◌≡◌, ◌≤◌, ◌-◌, length, take, drop, cond, is_some, None, OnOk, OnErr};
 ghost use Rattle.wasi_fs.specs.MemStores.{one_file_told, one_file_after_fault, one_file_with};
-ghost use Rattle.wasi_fs.specs.Stores.{fault_of, is_too_low, place_in, after_more};
+ghost use Rattle.wasi_fs.specs.Stores.{fault_of, is_too_low, bytes_after};
 ghost use Rattle.wasi_fs.specs.laws.Bound.{one_file_bound};
+ghost use Rattle.wasi_fs_nodes.specs.Writes.{place_in, write_from};
 
 use crate::store::Store;
 use std::marker::Model;
@@ -92,7 +93,7 @@ impl MemStore {
 
     /// Bytes from a place on. An end past what memory can hold is want of memory.
     fn write_from(&mut self, place: u64, bytes: &[u8]) -> Result<(), OutOfMemory>
-        ensures ok { OnOk result (self.new ≡ one_file_with self.old (after_more self.old.bytes place bytes.now)) }
+        ensures ok { OnOk result (self.new ≡ one_file_with self.old (bytes_after self.old.bytes (write_from None self.old.bytes place bytes.now))) }
         ensures err { OnErr result (self.new ≡ self.old) }
     {
         if bytes.is_empty() {

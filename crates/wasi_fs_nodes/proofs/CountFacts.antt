@@ -6,7 +6,8 @@ use Rattle.std.specs.Map.{keys_of}
 use Rattle.wasi_clocks.specs.declared.datetimes.Datetime.{Datetime}
 use Rattle.wasi_fs_nodes.specs.Names.{IsAscending, entry_of}
 use Rattle.wasi_fs_nodes.specs.Nodes.{bytes_at, kind_at, is_directory, parent_at, entry_at, names_in, names_at, bytes_in, links_of, total_bytes}
-use Rattle.wasi_fs_nodes.specs.Bodies.{body_written, body_resized, with_written, with_size, with_body, body_with_name, body_with_other, body_with_parent, body_without_name, with_name, without_name, with_times}
+use Rattle.wasi_fs_nodes.specs.Content.{written}
+use Rattle.wasi_fs_nodes.specs.Bodies.{body_with_bytes, body_resized, with_written, with_size, with_body, body_with_name, body_with_other, body_with_parent, body_without_name, with_name, without_name, with_times}
 use Rattle.wasi_fs_nodes.specs.Shape.{IsSound, IsFresh}
 use Rattle.wasi_fs_nodes.specs.Changes.{root_alone, put_at, moved}
 use Rattle.wasi_fs_nodes.specs.Counts.{nodes_in, links_list, IsCounted}
@@ -18,7 +19,7 @@ use Rattle.wasi_fs_nodes.specs.declared.rows.Row.{Row}
 use Rattle.wasi_fs_nodes.proofs.EntryFacts.{no_names_ascend}
 use Rattle.wasi_fs_nodes.proofs.NodeFacts.{some_links}
 use Rattle.wasi_fs_nodes.proofs.RowFacts.{read_more, read_less}
-use Rattle.wasi_fs_nodes.proofs.ShapeFacts.{Keeps, keeps_written, keeps_resized}
+use Rattle.wasi_fs_nodes.proofs.ShapeFacts.{Keeps, keeps_bytes, keeps_resized}
 use Rattle.wasi_fs_nodes.proofs.MoveFacts.{kept_put_at}
 use Rattle.wasi_fs_nodes.proofs.SoundChanges.{sound_kept, sound_new, sound_link, sound_taken, sound_moved, sound-with_times}
 use Rattle.wasi_fs_nodes.proofs.SumFacts.{bytes_part, written_sum, sized_sum, total_bytes-push, total_bytes-kept, links_of-push, links_of-kept, links_of-with_name, links_of-without_name, links_of-with_target, total_bytes-with_times, links_of-with_times}
@@ -209,8 +210,8 @@ counted_file f k same rows more bytes now file i m s c t r = record {
   few = omega (arith, c, i.few);
 }
 
-written_names : (place : ℕ) (bs : List ℕ) (b : Body) → names_in (body_written place bs b) ≡ names_in b
-written_names place bs b = elim b as (λ b. names_in (body_written place bs b) ≡ names_in b) [ File x ↦ refl | Directory p x ↦ refl | Link x ↦ refl ]
+bytes_names : (now : List ℕ) (b : Body) → names_in (body_with_bytes now b) ≡ names_in b
+bytes_names now b = elim b as (λ b. names_in (body_with_bytes now b) ≡ names_in b) [ File x ↦ refl | Directory p x ↦ refl | Link x ↦ refl ]
 
 resized_names : (size : ℕ) (b : Body) → names_in (body_resized size b) ≡ names_in b
 resized_names size b = elim b as (λ b. names_in (body_resized size b) ≡ names_in b) [ File x ↦ refl | Directory p x ↦ refl | Link x ↦ refl ]
@@ -219,7 +220,8 @@ pub counted_written : (rows more : List Row) (bytes grown file place : ℕ) (bs 
     → nodes_in more ≡ with_written (nodes_in rows) file place bs → links_list more ≡ links_list rows → length more ≡ length rows
     → grown ≡ place + length bs - length (bytes_at (nodes_in rows) file) → total_bytes (nodes_in rows) + grown ≤ 67108864 → IsCounted more (bytes + grown)
 counted_written rows more bytes grown file place bs i k m s c g r =
-    counted_file (body_written place bs) (keeps_written place bs) (written_names place bs) rows more bytes (bytes + grown) file i m s c
+    let after : List ℕ = written (bytes_at (nodes_in rows) file) place bs in
+    counted_file (body_with_bytes after) (keeps_bytes after) (bytes_names after) rows more bytes (bytes + grown) file i m s c
     (omega (arith, i.sum, g, written_sum (nodes_in rows) file place bs k)) (omega (arith, i.sum, r))
 
 pub counted_sized : (rows more : List Row) (bytes now before file size : ℕ) → IsCounted rows bytes → kind_at (nodes_in rows) file ≡ Some kinds.File

@@ -1,18 +1,19 @@
 -- No change makes a node something else.
-use Rattle.std.proofs.Common.{◌≡◌, ℕ, ◌+◌, List, [], ◌∷◌, length, Option, Some, None, is_some, Result, Ok, Err, IfOk, Bool, true, false, cond, not, ◌&&◌, ltb, ◌∙◌}
+use Rattle.std.proofs.Common.{◌≡◌, ℕ, List, length, Option, Some, None, is_some, Result, Ok, Err, IfOk, Bool, true, false, cond, not, ◌&&◌, ◌∙◌}
 use Rattle.wasi_clocks.specs.declared.datetimes.Datetime.{Datetime}
 use Rattle.wasi_fs_types.specs.declared.error_code.ErrorCode.{ErrorCode}
 use Rattle.wasi_fs_types.specs.declared.error_code.ErrorCode.TheVariants as code
 use Rattle.wasi_fs_nodes.specs.Names.{has_no_names}
 use Rattle.wasi_fs_nodes.specs.Nodes.{kind_of, is_directory, names_at, entry_at, bytes_in, bytes_at, is_removed}
-use Rattle.wasi_fs_nodes.specs.Bodies.{with_body, body_with_name, body_with_other, body_with_parent, body_without_name, body_written, body_resized, with_name, with_new, with_size, with_written, with_times, without_name, with_parent}
+use Rattle.wasi_fs_nodes.specs.Bodies.{with_body, body_with_name, body_with_other, body_with_parent, body_without_name, body_with_bytes, body_resized, with_name, with_new, with_size, with_times, without_name, with_parent}
 use Rattle.wasi_fs_nodes.specs.Outcome.{then, unless, unless_some}
 use Rattle.wasi_fs_nodes.specs.Shape.{KindsStay}
-use Rattle.wasi_fs_nodes.specs.Changes.{made, may_make, linked, unlinked, unlinked_entry, directory_removed, removed_entry, put_at, moved, is_node, target_refusal, renamed, renamed_onto, sized, has_no_room, wrote, place_of, file_limit}
+use Rattle.wasi_fs_nodes.specs.Changes.{made, may_make, linked, unlinked, unlinked_entry, directory_removed, removed_entry, put_at, moved, is_node, target_refusal, renamed, renamed_onto, limits_of, sized, nodes_after, wrote}
+use Rattle.wasi_fs_nodes.specs.Writes.{passed, place_in, Write, Fault, Refusal, Nothing, Bytes, write_from}
 use Rattle.wasi_fs_nodes.specs.declared.at.At.{At}
 use Rattle.wasi_fs_nodes.specs.declared.node.Node.{Node}
 use Rattle.wasi_fs_nodes.specs.declared.node.Body.{Body}
-use Rattle.wasi_fs_nodes.proofs.ShapeFacts.{kind_at-with_body, kind_push, kind_at-with_times, keeps_name, keeps_other, keeps_taken, keeps_written, keeps_resized, parent_kind}
+use Rattle.wasi_fs_nodes.proofs.ShapeFacts.{kind_at-with_body, kind_push, kind_at-with_times, keeps_name, keeps_other, keeps_taken, keeps_bytes, keeps_resized, parent_kind}
 
 if_unless : (P : List Node → Type 0) (b : Bool) (refusal : ErrorCode) (r : Result (List Node) ErrorCode) → IfOk r P → IfOk (unless b refusal r) P
 if_unless P true refusal r h = tt
@@ -96,18 +97,17 @@ size_stay nodes file size = stay (body_resized size) (keeps_resized size).kind n
 
 pub sized_stay : (nodes : List Node) (file size : ℕ) → IfOk (sized nodes file size) (KindsStay nodes)
 sized_stay nodes file size =
-    if_unless (KindsStay nodes) (ltb file_limit size) code.FileTooLarge _
-    (if_unless (KindsStay nodes) (has_no_room nodes file size) code.InsufficientSpace _ (size_stay nodes file size))
+    if_unless_some (KindsStay nodes) (passed (Some (limits_of nodes)) (length (bytes_at nodes file)) size) _ (size_stay nodes file size)
+
+after_stay : (nodes : List Node) (file : ℕ) (write : Write) → IfOk (nodes_after nodes file write) (KindsStay nodes)
+after_stay nodes file (Fault refusal) = tt
+after_stay nodes file (Refusal refusal) = tt
+after_stay nodes file Nothing = λ n kind e. e
+after_stay nodes file (Bytes now) = stay (body_with_bytes now) (keeps_bytes now).kind nodes file
 
 pub wrote_stay : (nodes : List Node) (file : ℕ) (to : At) (bytes : List ℕ) → IfOk (wrote nodes file to bytes) (KindsStay nodes)
-wrote_stay nodes file to [] = λ n kind e. e
-wrote_stay nodes file to (b ∷ bs) =
-    let bytes : List ℕ = b ∷ bs in
-    let place : ℕ = place_of (bytes_at nodes file) to in
-    if_unless (KindsStay nodes) (ltb file_limit (place + length bytes)) code.FileTooLarge
-    (unless (has_no_room nodes file (place + length bytes)) code.InsufficientSpace (Ok (with_written nodes file place bytes)))
-    (if_unless (KindsStay nodes) (has_no_room nodes file (place + length bytes)) code.InsufficientSpace (Ok (with_written nodes file place bytes))
-    (stay (body_written place bytes) (keeps_written place bytes).kind nodes file))
+wrote_stay nodes file to bytes =
+    after_stay nodes file (write_from (Some (limits_of nodes)) (bytes_at nodes file) (place_in 0 (length (bytes_at nodes file)) to) bytes)
 
 pub times_stay : (nodes : List Node) (node : ℕ) (access modification : Option Datetime) → KindsStay nodes (with_times nodes node access modification)
 times_stay nodes node access modification n kind h = kind_at-with_times nodes node n access modification ∙ h

@@ -1,11 +1,13 @@
 use Rattle.std.proofs.lemmas.Bool.Decides.{nat_tests}
-use Rattle.std.proofs.Common.{Option, IfSome, ◌≡◌, ℕ, zero, suc, ◌<◌, List, [], ◌∷◌, length, get_or, Some, None, Bool, true, false, cond, sym, arith}
+use Rattle.std.proofs.Common.{Option, IfSome, ◌≡◌, ℕ, zero, suc, ◌<◌, List, [], ◌∷◌, length, get_or, Some, None, Bool, true, false, cond, refl, sym, arith}
+use Rattle.std.specs.Prelude.{IsSome, slice_get}
 use Rattle.std.specs.Ordering.{nat_cmp}
 use Rattle.std.specs.BTreeMap.{is_at}
 use Rattle.std.specs.Cmp.Lexicographic.{slice_cmp}
 use Rattle.wasi_fs_nodes.specs.Names.{entry_of}
 use Rattle.wasi_fs_nodes.specs.Nodes.{entry_at, names_in, names_for, links_of}
 use Rattle.wasi_fs_nodes.specs.Shape.{NamesNodes}
+use Rattle.wasi_fs_nodes.specs.Stats.{stat_of, stat_at}
 use Rattle.wasi_fs_nodes.specs.declared.node.Node.{Node}
 
 -- WHAT AN ENTRY NAMES HAS LINKS
@@ -33,3 +35,12 @@ within (x ∷ xs) (suc n) h = omega (arith, within xs n h)
 pub made_entry : (nodes : List Node) (dir : ℕ) (name : List ℕ) (o : Option ℕ) → NamesNodes nodes → o ≡ entry_at nodes dir name → IfSome o (λ n. n < length nodes)
 made_entry nodes dir name None named h = tt
 made_entry nodes dir name (Some n) named h = named dir name n (sym h)
+
+-- A NODE THAT WAS MADE IS TOLD
+some_told : (all : List Node) (k : ℕ) (nodes : List Node) (n : ℕ) → n < length nodes → IsSome (stat_of all k (slice_get nodes n))
+some_told all k [] n l = absurd (omega arith)
+some_told all k (x ∷ nodes) zero l = refl
+some_told all k (x ∷ nodes) (suc n) l = some_told all k nodes n (omega arith)
+
+pub made_told : (nodes : List Node) (n : ℕ) → n < length nodes → IsSome (stat_at nodes n)
+made_told nodes n l = some_told nodes n nodes n l

@@ -1,8 +1,8 @@
 -- Rows after a change at one place: the nodes and the counts of links that they hold.
-use Rattle.std.proofs.Common.{◌≡◌, ℕ, zero, suc, ◌+◌, ◌-◌, ◌<◌, List, [], ◌∷◌, length, set, get_or, cond, eqb, Option, refl, ap, ◌∙◌, arith}
+use Rattle.std.proofs.Common.{◌≡◌, ℕ, zero, suc, ◌+◌, ◌-◌, ◌<◌, List, [], ◌∷◌, length, set, get_or, cond, eqb, Option, refl, ap, sym, ◌∙◌, arith}
 use Rattle.std.proofs.lemmas.Bool.Decides.{nat_tests}
 use Rattle.wasi_clocks.specs.declared.datetimes.Datetime.{Datetime}
-use Rattle.wasi_fs_nodes.specs.Nodes.{times_with}
+use Rattle.wasi_fs_nodes.specs.Nodes.{bytes_in, bytes_at, times_with}
 use Rattle.wasi_fs_nodes.specs.Bodies.{with_body, with_times}
 use Rattle.wasi_fs_nodes.specs.Counts.{nodes_in, links_list}
 use Rattle.wasi_fs_nodes.specs.declared.node.Node.{Node}
@@ -15,6 +15,11 @@ pub rows_changed : (f : Body → Body) (rows : List Row) (i : ℕ) (r : Row) (b 
 rows_changed f [] i r b h e = refl
 rows_changed f (x ∷ rows) zero r b h e = ap (λ (y : Node). y ∷ nodes_in rows) (rw e (ap (λ (y : Row). let n : Node = record y.node { body = f y.node.body } in n) h))
 rows_changed f (x ∷ rows) (suc i) r b h e = ap (λ ys. x.node ∷ ys) (rows_changed f rows i r b h e)
+
+pub bytes_read : (rows : List Row) (i : ℕ) (r : Row) → i < length rows → r ≡ get_or rows i r → bytes_at (nodes_in rows) i ≡ bytes_in r.node.body
+bytes_read [] i r below h = absurd (omega arith)
+bytes_read (x ∷ rows) zero r below h = ap (λ (y : Row). bytes_in y.node.body) (sym h)
+bytes_read (x ∷ rows) (suc i) r below h = bytes_read rows i r (omega arith) h
 
 pub times_changed : (a m : Option Datetime) (rows : List Row) (i : ℕ) (r : Row) (t : Times) → r ≡ get_or rows i r → t ≡ times_with a m r.node.times
     → nodes_in (set rows i (record r { node = record r.node { times = t } })) ≡ with_times (nodes_in rows) i a m

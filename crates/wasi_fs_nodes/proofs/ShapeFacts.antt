@@ -2,7 +2,7 @@
 use Rattle.std.proofs.Common.{◌≡◌, ℕ, zero, suc, List, [], ◌∷◌, ◌++◌, length, ◌⊎◌, inl, inr, Option, Some, None, refl, ap, sym, ◌∙◌}
 use Rattle.wasi_clocks.specs.declared.datetimes.Datetime.{Datetime}
 use Rattle.wasi_fs_nodes.specs.Nodes.{body_at, kind_of, kind_of_body, kind_at, parent_in, parent_of, parent_at}
-use Rattle.wasi_fs_nodes.specs.Bodies.{with_body, body_with_name, body_with_other, body_with_parent, body_without_name, body_written, body_resized, with_parent, with_times}
+use Rattle.wasi_fs_nodes.specs.Bodies.{with_body, body_with_name, body_with_other, body_with_parent, body_without_name, body_with_bytes, body_resized, with_parent, with_times}
 use Rattle.wasi_fs_nodes.specs.Shape.{IsRooted}
 use Rattle.wasi_fs_nodes.specs.declared.node.Node.{Node}
 use Rattle.wasi_fs_nodes.specs.declared.node.Body.{Body}
@@ -33,10 +33,10 @@ keeps_taken name = record {
   parent = λ b. elim b as (λ b. parent_in (body_without_name name b) ≡ parent_in b) [ File x ↦ refl | Directory p x ↦ refl | Link x ↦ refl ];
 }
 
-pub keeps_written : (place : ℕ) (more : List ℕ) → Keeps (body_written place more)
-keeps_written place more = record {
-  kind = λ b. elim b as (λ b. kind_of (body_written place more b) ≡ kind_of b) [ File x ↦ refl | Directory p x ↦ refl | Link x ↦ refl ];
-  parent = λ b. elim b as (λ b. parent_in (body_written place more b) ≡ parent_in b) [ File x ↦ refl | Directory p x ↦ refl | Link x ↦ refl ];
+pub keeps_bytes : (now : List ℕ) → Keeps (body_with_bytes now)
+keeps_bytes now = record {
+  kind = λ b. elim b as (λ b. kind_of (body_with_bytes now b) ≡ kind_of b) [ File x ↦ refl | Directory p x ↦ refl | Link x ↦ refl ];
+  parent = λ b. elim b as (λ b. parent_in (body_with_bytes now b) ≡ parent_in b) [ File x ↦ refl | Directory p x ↦ refl | Link x ↦ refl ];
 }
 
 pub keeps_resized : (size : ℕ) → Keeps (body_resized size)

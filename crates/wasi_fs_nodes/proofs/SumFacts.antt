@@ -10,7 +10,7 @@ use Rattle.wasi_clocks.specs.declared.datetimes.Datetime.{Datetime}
 use Rattle.wasi_fs_nodes.specs.Content.{resized, written}
 use Rattle.wasi_fs_nodes.specs.Names.{entry_of, with_entry, with_other, without_entry}
 use Rattle.wasi_fs_nodes.specs.Nodes.{body_at, kind_of, kind_of_body, kind_at, names_in, names_of, entry_at, names_for, links_of, total_bytes, bytes_in, bytes_at}
-use Rattle.wasi_fs_nodes.specs.Bodies.{with_body, body_with_name, body_with_other, body_without_name, with_name, with_target, without_name, body_written, body_resized, with_written, with_size, with_times}
+use Rattle.wasi_fs_nodes.specs.Bodies.{with_body, body_with_name, body_with_other, body_without_name, with_name, with_target, without_name, body_with_bytes, body_resized, with_written, with_size, with_times}
 use Rattle.wasi_fs_nodes.specs.declared.node.Node.{Node}
 use Rattle.wasi_fs_nodes.specs.declared.node.Body.{Body}
 use Rattle.wasi_fs_nodes.specs.declared.node.Body.TheVariants.{File, Directory, Link}
@@ -61,10 +61,11 @@ length-written bytes place more = omega (arith, length-resized bytes place, leng
 pub written_sum : (nodes : List Node) (file place : ℕ) (more : List ℕ) → kind_at nodes file ≡ Some kinds.File
     → total_bytes (with_written nodes file place more) ≡ total_bytes nodes + (place + length more - length (bytes_at nodes file))
 written_sum nodes file place more h =
+    let now : List ℕ = written (bytes_at nodes file) place more in
     omega (
       arith,
-      total_bytes-changed (body_written place more) nodes file,
-      ap length (bytes_at-file (body_written place more) (λ bytes. written bytes place more) (λ bytes. refl) nodes file h),
+      total_bytes-changed (body_with_bytes now) nodes file,
+      ap length (bytes_at-file (body_with_bytes now) (λ bytes. now) (λ bytes. refl) nodes file h),
       length-written (bytes_at nodes file) place more,
     )
 

@@ -3,7 +3,7 @@ use Rattle.std.specs.Prelude.{ℕ, zero, suc, List, [], ◌∷◌, ◌++◌, len
 use Rattle.wasi_clocks.specs.declared.datetimes.Datetime.{Datetime}
 use Rattle.wasi_fs_nodes.specs.Content.{written, resized}
 use Rattle.wasi_fs_nodes.specs.Names.{with_entry, without_entry, with_other}
-use Rattle.wasi_fs_nodes.specs.Nodes.{times_with}
+use Rattle.wasi_fs_nodes.specs.Nodes.{bytes_at, times_with}
 use Rattle.wasi_fs_nodes.specs.declared.node.Node.{Node}
 use Rattle.wasi_fs_nodes.specs.declared.node.Body.{Body}
 use Rattle.wasi_fs_nodes.specs.declared.node.Body.TheVariants.{File, Directory, Link}
@@ -28,10 +28,10 @@ body_without_name name (File bytes) = File bytes
 body_without_name name (Directory parent names) = Directory parent (without_entry names name)
 body_without_name name (Link text) = Link text
 
-abbrev pub body_written : ℕ → List ℕ → Body → Body
-body_written place more (File bytes) = File (written bytes place more)
-body_written place more (Directory parent names) = Directory parent names
-body_written place more (Link text) = Link text
+abbrev pub body_with_bytes : List ℕ → Body → Body
+body_with_bytes now (File bytes) = File now
+body_with_bytes now (Directory parent names) = Directory parent names
+body_with_bytes now (Link text) = Link text
 
 abbrev pub body_resized : ℕ → Body → Body
 body_resized size (File bytes) = File (resized bytes size)
@@ -60,9 +60,13 @@ without_name nodes dir name = with_body (body_without_name name) nodes dir
 abbrev pub with_parent : List Node → ℕ → ℕ → List Node
 with_parent nodes n dir = with_body (body_with_parent dir) nodes n
 
+-- with other bytes in a file, and the same times
+abbrev pub with_bytes : List Node → ℕ → List ℕ → List Node
+with_bytes nodes file now = with_body (body_with_bytes now) nodes file
+
 -- with bytes over those of a file from a place on
 abbrev pub with_written : List Node → ℕ → ℕ → List ℕ → List Node
-with_written nodes file place more = with_body (body_written place more) nodes file
+with_written nodes file place more = with_bytes nodes file (written (bytes_at nodes file) place more)
 
 -- with a file that is cut to a size, or filled with zeros
 abbrev pub with_size : List Node → ℕ → ℕ → List Node

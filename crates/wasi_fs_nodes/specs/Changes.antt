@@ -1,13 +1,13 @@
 -- The changes of a tree's nodes, each with its refusals in their order. A removed directory takes no new entry, and a
 -- lack of room is the last refusal of all.
-use Rattle.std.specs.Prelude.{ℕ, ◌+◌, ◌-◌, List, [], ◌∷◌, length, Option, Some, None, is_some, Result, Ok, Err, Bool, true, false, cond, not, ◌&&◌, ◌||◌, eqb, ltb}
+use Rattle.std.specs.Prelude.{ℕ, ◌+◌, List, [], ◌∷◌, length, Option, Some, None, is_some, Result, Ok, Err, Bool, true, false, cond, not, ◌&&◌, ◌||◌, eqb, ltb}
 use Rattle.wasi_clocks.specs.declared.datetimes.Datetime.{Datetime}
 use Rattle.wasi_fs_nodes.specs.Names.{has_no_names}
 use Rattle.wasi_fs_nodes.specs.Nodes.{is_directory, names_at, entry_at, bytes_in, bytes_at, total_bytes, is_removed, all_at}
-use Rattle.wasi_fs_nodes.specs.Bodies.{with_new, with_name, with_target, with_parent, without_name, with_written, with_size}
+use Rattle.wasi_fs_nodes.specs.Bodies.{with_new, with_name, with_target, with_parent, without_name, with_bytes, with_size}
 use Rattle.wasi_fs_nodes.specs.Outcome.{then, unless, unless_some}
+use Rattle.wasi_fs_nodes.specs.Writes.{Limits, passed, place_in, Write, Fault, Refusal, Nothing, Bytes, write_from}
 use Rattle.wasi_fs_nodes.specs.declared.at.At.{At}
-use Rattle.wasi_fs_nodes.specs.declared.at.At.TheVariants as at
 use Rattle.wasi_fs_nodes.specs.declared.node.Node.{Node}
 use Rattle.wasi_fs_nodes.specs.declared.node.Body.TheVariants.{File, Directory, Link}
 use Rattle.wasi_fs_types.specs.declared.error_code.ErrorCode.{ErrorCode}
@@ -121,28 +121,20 @@ abbrev pub renamed : (ℕ → ℕ → Bool) → List Node → ℕ → List ℕ �
 renamed below nodes from name to to_name = renamed_onto below nodes from name (entry_at nodes from name) to to_name (entry_at nodes to to_name)
 
 -- THE BYTES OF A FILE
--- too many bytes in all, where a file has so many
-abbrev pub has_no_room : List Node → ℕ → ℕ → Bool
-has_no_room nodes file size = ltb tree_limit (total_bytes nodes + (size - length (bytes_at nodes file)))
+abbrev pub limits_of : List Node → Limits
+limits_of nodes = record { file = file_limit; all = tree_limit; total = total_bytes nodes }
 
 -- cut, or filled with zeros
 abbrev pub sized : List Node → ℕ → ℕ → Result (List Node) ErrorCode
-sized nodes file size =
-    unless (ltb file_limit size) code.FileTooLarge
-    (unless (has_no_room nodes file size) code.InsufficientSpace
-    (Ok (with_size nodes file size)))
+sized nodes file size = unless_some (passed (Some (limits_of nodes)) (length (bytes_at nodes file)) size) (Ok (with_size nodes file size))
 
-abbrev pub place_of : List ℕ → At → ℕ
-place_of bytes at.End = length bytes
-place_of bytes (at.Offset place) = place
+abbrev pub nodes_after : List Node → ℕ → Write → Result (List Node) ErrorCode
+nodes_after nodes file (Fault code) = Err code
+nodes_after nodes file (Refusal code) = Err code
+nodes_after nodes file Nothing = Ok nodes
+nodes_after nodes file (Bytes now) = Ok (with_bytes nodes file now)
 
-abbrev pub wrote_from : List Node → ℕ → ℕ → List ℕ → Result (List Node) ErrorCode
-wrote_from nodes file place bytes =
-    unless (ltb file_limit (place + length bytes)) code.FileTooLarge
-    (unless (has_no_room nodes file (place + length bytes)) code.InsufficientSpace
-    (Ok (with_written nodes file place bytes)))
-
--- bytes from a place on; a write of none changes nothing
+-- bytes from a place on
 abbrev pub wrote : List Node → ℕ → At → List ℕ → Result (List Node) ErrorCode
-wrote nodes file to [] = Ok nodes
-wrote nodes file to (b ∷ bs) = wrote_from nodes file (place_of (bytes_at nodes file) to) (b ∷ bs)
+wrote nodes file to more =
+    nodes_after nodes file (write_from (Some (limits_of nodes)) (bytes_at nodes file) (place_in 0 (length (bytes_at nodes file)) to) more)

@@ -1,6 +1,7 @@
 pub mod StoreError
 pub mod Outcome
 pub mod Content
+pub mod Writes
 pub mod Names
 pub mod Nodes
 pub mod Bodies

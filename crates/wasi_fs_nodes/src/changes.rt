@@ -1,7 +1,8 @@
 ghost use Rattle.std.specs.Prelude.{◌≡◌, ℕ, Bool, ◌+◌, ◌<◌, ◌≤◌, length, Some, None, Ok, Err, IfOk, OnOk};
 ghost use Rattle.wasi_fs_nodes.specs.Nodes.{kind_at, bytes_at, entry_at, total_bytes, TellsBelow};
 ghost use Rattle.wasi_fs_nodes.specs.Outcome.{Leaves, LeavesAlways};
-ghost use Rattle.wasi_fs_nodes.specs.Changes.{may_make, made, new_file, new_directory, new_link, linked, unlinked, directory_removed, renamed, target_refusal, moved, sized, wrote, wrote_from};
+ghost use Rattle.wasi_fs_nodes.specs.Changes.{may_make, made, new_file, new_directory, new_link, linked, unlinked, directory_removed, renamed, target_refusal, moved, limits_of, sized, nodes_after, wrote};
+ghost use Rattle.wasi_fs_nodes.specs.Writes.{written_from};
 ghost use Rattle.wasi_fs_nodes.specs.laws.Climbs.{climbs};
 
 use crate::content::Content;
@@ -309,7 +310,7 @@ impl Nodes {
 
     fn write_from(&mut self, file: u64, place: u64, bytes: &[u8]) -> Result<(), StoreError>
         requires { kind_at self.old file ≡ Some Kind.File }
-        ensures { Leaves self.old self.new result (wrote_from self.old file place bytes.now) }
+        ensures { Leaves self.old self.new result (nodes_after self.old file (written_from (Some (limits_of self.old)) (bytes_at self.old file) place bytes.now)) }
     {
         let length = bytes.len() as u64;
         if place > FILE_LIMIT || length > FILE_LIMIT - place {

@@ -3,7 +3,8 @@ ghost use Rattle.std.specs.Map.{keys_of};
 ghost use Rattle.wasi_fs_nodes.specs.Names.{IsAscending, entry_of, has_no_names};
 ghost use Rattle.wasi_fs_nodes.specs.Nodes.{kind_of, names_in, parent_in, bytes_in, text_in, size_in, all_at, times_with};
 ghost use Rattle.wasi_fs_nodes.specs.Stats.{pairs_of};
-ghost use Rattle.wasi_fs_nodes.specs.Bodies.{body_with_name, body_with_other, body_with_parent, body_without_name, body_written, body_resized};
+ghost use Rattle.wasi_fs_nodes.specs.Content.{written};
+ghost use Rattle.wasi_fs_nodes.specs.Bodies.{body_with_name, body_with_other, body_with_parent, body_without_name, body_with_bytes, body_resized};
 
 use crate::content::Content;
 use crate::names::Names;
@@ -219,7 +220,7 @@ impl Body {
     /// Bytes over those of a file from a place on.
     pub(crate) fn write_at(&mut self, place: usize, more: &[u8]) -> Result<(), AllocError>
         requires { place + length more.now < 2 ^ 32 }
-        ensures ok { OnOk result (self.new ≡ body_written place more.now self.old) }
+        ensures ok { OnOk result (self.new ≡ body_with_bytes (written (bytes_in self.old) place more.now) self.old) }
         ensures err { OnErr result (self.new ≡ self.old) }
     {
         match self {

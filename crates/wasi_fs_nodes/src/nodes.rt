@@ -1,4 +1,4 @@
-ghost use Rattle.std.specs.Prelude.{◌≡◌, ◌<◌, ◌≤◌, length, take, drop, Some, None, IfOk, OnOk, IfSome, MatchOption};
+ghost use Rattle.std.specs.Prelude.{◌≡◌, ◌<◌, ◌≤◌, length, take, drop, Some, None, IfOk, OnOk, IfSome, IsSome, MatchOption};
 ghost use Rattle.std.specs.Map.{keys_of};
 ghost use Rattle.wasi_fs_nodes.specs.Names.{IsAscending, has_no_names};
 ghost use Rattle.wasi_fs_nodes.specs.Nodes.{names_at, kind_at, is_directory, entry_at, parent_at, links_of, total_bytes, is_removed, bytes_at, text_at};
@@ -189,9 +189,11 @@ impl Nodes {
         }
     }
 
-    /// What is told of a node; `None` where none was made.
+    /// What is told of a node; `None` exactly where none was made.
+    #[tactic(auto, using(crate::proofs::NodeFacts::made_told))]
     pub fn stat(&self, node: u64) -> Option<Stat>
-        ensures { result ≡ stat_at self.now node }
+        ensures is { result ≡ stat_at self.now node }
+        ensures always { node < length self.now → IsSome result }
     {
         match self.rows.get(node as usize) {
             None => None,

@@ -13,16 +13,19 @@ pub enum StoreError {
     OutOfMemory,
 }
 
+/// The words as they are, also where a width or a precision is asked for.
 impl fmt::Display for StoreError {
     ghost use Rattle.std.specs.Prelude.{Some};
     ghost use Rattle.wasi_fs_nodes.specs.StoreError.{store_error_text};
 
     ghost output = { λ error. Some (store_error_text error) };
 
+    ghost styled_output = { λ error _. Some (store_error_text error) };
+
     fn fmt<W: fmt::Write>(&self, f: &mut fmt::Formatter<W>) -> fmt::Result {
         match self {
             StoreError::Code(code) => code.fmt(f),
-            StoreError::OutOfMemory => write!(f, "out of memory"),
+            StoreError::OutOfMemory => f.write_str("out of memory"),
         }
     }
 }

@@ -303,5 +303,6 @@ fn refusals_are_told(rt: HostRuntime) -> Result<(), Fail> {
     assert!(rt; format!(in rt.alloc(); "{code}")?.as_str() == "no-entry");
     let error = StoreError::OutOfMemory;
     assert!(rt; format!(in rt.alloc(); "{error}")?.as_str() == "out of memory");
+    assert!(rt; format!(in rt.alloc(); "{error:>30}")?.as_str() == "out of memory");
     Ok(())
 }

@@ -6,7 +6,7 @@ use crate::{
 };
 use bitflags::Flags;
 use std::test::Fail;
-use wasi_base::IoKind;
+use wasi_base::{IoKind, TrapText};
 use wasi_clocks::{Datetime, Instant};
 
 const CODES: [(ErrorCode, &str, &str); 25] = [
@@ -68,6 +68,27 @@ fn a_code_prints_its_word(rt: HostRuntime) -> Result<(), Fail> {
     let error = FilesystemError::from(ErrorCode::NameTooLong);
     let text = format!(in rt.alloc(); "{error}")?;
     assert_eq!(rt; text.as_str(), "name-too-long");
+    Ok(())
+}
+
+/// A refusal, a trap and want of memory print the same words under a width.
+#[test]
+fn a_width_pads_no_refusal(rt: HostRuntime) -> Result<(), Fail> {
+    let refusals = [
+        (FilesystemError::Normal(ErrorCode::NoEntry), "no-entry"),
+        (
+            FilesystemError::trap(TrapText::RequestedLength {
+                length: 9,
+                limit: 4,
+            }),
+            "requested len 9 exceeds limit 4",
+        ),
+        (FilesystemError::OutOfMemory, "out of memory"),
+    ];
+    for (error, words) in refusals {
+        let text = format!(in rt.alloc(); "{error:>40}")?;
+        assert_eq!(rt; text.as_str(), words);
+    }
     Ok(())
 }
 

@@ -1,6 +1,6 @@
 -- Slots that are read, kept and rewritten one after the other.
-use Rattle.std.proofs.Common.{◌≡◌, ℕ, zero, suc, ◌+◌, ◌-◌, ◌*◌, ◌<◌, Bool, true, false, List, ◌∷◌, length, drop, get_or, cond, Result, Ok, Err, sym, ap, ◌∙◌, subst, arith, add-one, add-zero, add-suc}
-use Rattle.std.specs.Prelude.{nat_le}
+use Rattle.std.proofs.Common.{◌≡◌, ℕ, zero, suc, ◌+◌, ◌-◌, ◌*◌, ◌<◌, Bool, true, false, List, ◌∷◌, length, drop, get_or, cond, Result, Ok, Err, refl, sym, ap, ◌∙◌, subst, arith, add-one, add-zero, add-suc}
+use Rattle.std.specs.Prelude.{nat_le, IsOk}
 use Rattle.std.proofs.lemmas.List.{drop_more}
 use Rattle.wasi_base.specs.declared.trappable.TrappableError.{TrappableError}
 use Rattle.wasi_base.specs.declared.trappable.TrappableError.TheVariants.{Normal, Trap, OutOfMemory}
@@ -61,10 +61,18 @@ restoring_stops place i slots memory here slot errno below is fits written =
     from_slot place i slots memory slot below is
     ∙ refused (nat_le (place + 48 * i + 48) (length memory)) (overwritten (place + 48 * i) (p1_subscription slot) memory) memory here (restoring (place + 48 * (i + 1)) (drop (i + 1) slots) (overwritten (place + 48 * i) (p1_subscription slot) memory)) errno fits written
 
+-- a slot that can be read is kept
+kept_one : (place : ℕ) (slots : List Subscription) (memory : List ℕ) (slot : Result Subscription Errno) → IsOk slot → IsOk (one_more place slots memory slot).kept
+kept_one place slots memory (Ok slot) h = h
+kept_one place slots memory (Err errno) h = h
+
 -- a slot that was not kept ends the rewriting
 pub rewriting_ends : (place i n : ℕ) (memory : List ℕ) (slots : List Subscription) (here here' : List ℕ) (error : TrappableError Errno) → i < n → rewriting place i memory ≡ record { kept = Ok slots; memory = here } → RefusesSlot error (slot_at (place + 48 * i) here) → here' ≡ here → StopsRewriting place n memory error here'
 rewriting_ends place i n memory slots here here' (Normal errno) below so_far why same =
     rewriting_stops place i n memory slots here errno below so_far why ∙ ap (λ (m : List ℕ). record { kept = Err errno; memory = m }) (sym same)
 rewriting_ends place i n memory slots here here' (Trap text) below so_far why same = why
 rewriting_ends place i n memory slots here here' OutOfMemory below so_far why same =
-    (i, below, same ∙ sym (ap (λ (r : Rewriting). r.memory) so_far))
+    let next : Rewriting = one_more (place + 48 * i) slots here (slot_at (place + 48 * i) here) in
+    let P : Rewriting → Type 0 = λ r. IsOk r.kept in
+    let read : IsOk (rewriting place (i + 1) memory).kept = subst P (sym (rewriting_more place i memory slots here next so_far refl)) (kept_one (place + 48 * i) slots here (slot_at (place + 48 * i) here) why) in
+    (i, below, read, same ∙ sym (ap (λ (r : Rewriting). r.memory) so_far))

@@ -1,5 +1,5 @@
 -- A poll of preview 0 over an object, `Fuel` and `Polls` being what the object's two calls mean.
-use Rattle.std.specs.Prelude.{◌≡◌, ℕ, ◌+◌, ◌*◌, ◌<◌, List, Result, Ok, Err, ◌⊎◌}
+use Rattle.std.specs.Prelude.{◌≡◌, ℕ, ◌+◌, ◌*◌, ◌<◌, List, Result, Ok, Err, IsOk, ◌⊎◌}
 use Rattle.wasi_base.specs.declared.trappable.TrappableError.{TrappableError}
 use Rattle.wasi_base.specs.declared.trappable.TrappableError.TheVariants.{Normal, Trap, OutOfMemory}
 use Rattle.wasi_p0.specs.Slots.{rewriting, restoring, slot_at}
@@ -55,10 +55,11 @@ AfterRewriting Polls place (Err errno) now after = Refused (Normal errno) now af
 abbrev pub with_rewritten : {T : Type 0} → ℕ → ℕ → Standing T → Standing T
 with_rewritten place n now = record now { memory = (rewriting place n now.memory).memory }
 
--- there was no memory to keep a slot; those before it are rewritten
+-- there was no memory to keep a slot, which can be read as those before it can; these are rewritten
 pub record WantsMemory {T : Type 0} (waits : Waits) (now : Standing T) (after : Polled T) : Type 0 where
   pub rewritten : ℕ
   pub left : rewritten < waits.count
+  pub read : IsOk (rewriting waits.place (rewritten + 1) now.memory).kept
   pub refused : Refused OutOfMemory (with_rewritten waits.place rewritten now) after
 
 abbrev pub AfterFuel : {T : Type 0} → (T → List ℕ → Result ℕ (TrappableError Errno) → T → List ℕ → Type 0) → Waits → Result (Unit {0}) (TrappableError Errno) → Standing T → Polled T → Type 0
@@ -83,10 +84,10 @@ ReadsAsBefore waits before after =
 abbrev pub RefusesSlot : TrappableError Errno → Result Subscription Errno → Type 0
 RefusesSlot (Normal errno) slot = slot ≡ Err errno
 RefusesSlot (Trap text) slot = ⊥
-RefusesSlot OutOfMemory slot = Unit {0}
+RefusesSlot OutOfMemory slot = IsOk slot
 
 -- why the slots were not all kept
 abbrev pub StopsRewriting : ℕ → ℕ → List ℕ → TrappableError Errno → List ℕ → Type 0
 StopsRewriting subs n memory (Normal errno) memory' = rewriting subs n memory ≡ record { kept = Err errno; memory = memory' }
 StopsRewriting subs n memory (Trap text) memory' = ⊥
-StopsRewriting subs n memory OutOfMemory memory' = (i : ℕ) × (i < n) × (memory' ≡ (rewriting subs i memory).memory)
+StopsRewriting subs n memory OutOfMemory memory' = (i : ℕ) × (i < n) × IsOk (rewriting subs (i + 1) memory).kept × (memory' ≡ (rewriting subs i memory).memory)

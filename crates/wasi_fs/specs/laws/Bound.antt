@@ -2,7 +2,7 @@
 use Rattle.std.specs.Prelude.{⊤}
 use Rattle.std.proofs.Common.{◌≡◌, ◌≢◌, ℕ, zero, suc, ◌+◌, ◌-◌, ◌≤◌, List, [], ◌∷◌, length, Some, Bool, true, false, cond, eqb, refl, ap, ◌∙◌, arith}
 use Rattle.std.proofs.lemmas.Bool.{eqb-true, eqb-false}
-use Rattle.wasi_fs_nodes.specs.Bodies.{with_body}
+use Rattle.wasi_fs_nodes.specs.Bodies.{with_body, body_with_bytes}
 use Rattle.wasi_fs_nodes.specs.Nodes.{kind_of, kind_at, bytes_in, bytes_at, total_bytes}
 use Rattle.wasi_fs_nodes.specs.declared.node.Node.{Node}
 use Rattle.wasi_fs_nodes.specs.declared.node.Body.{Body}
@@ -11,7 +11,7 @@ use Rattle.wasi_fs_nodes.specs.declared.node.Kind.TheVariants as kinds
 use Rattle.wasi_fs.specs.MemStores.{OneFile, one_file_told, one_file_after_fault, one_file_with}
 use Rattle.wasi_fs.specs.Stores.{Told, IsBound}
 use Rattle.wasi_fs.specs.Trees.{TreeState, after_fault}
-use Rattle.wasi_fs.specs.TreeStore.{tree_told, HasFile, bytes_of_file, body_with_bytes, with_file}
+use Rattle.wasi_fs.specs.TreeStore.{tree_told, HasFile, bytes_of_file, with_file}
 
 same_kind : (now : List ℕ) (b : Body) → kind_of (body_with_bytes now b) ≡ kind_of b
 same_kind now b = elim b as (λ b. kind_of (body_with_bytes now b) ≡ kind_of b) [ File x ↦ refl | Directory p x ↦ refl | Link x ↦ refl ]
