@@ -18,7 +18,7 @@ pub use declarations::Declared;
 pub use forms::Reading;
 pub use lines::{
     Access, Call, EntryCall, ExitStatus, Input, InputDeclaration, Line, Output, OutputDeclaration,
-    OwnCall, Setting, Standard, WorkerTurn,
+    OwnCall, Setting, Standard, StreamTask, WorkerTurn,
 };
 pub use name::Name;
 pub use parse::{Script, ScriptError, parse_script, read_after};
