@@ -167,7 +167,7 @@ fn name_room_and_plan(alloc: Global, mut words: Parts) -> Result<(Name, u64, Wri
 fn parse_buffered(alloc: Global, mut words: Parts) -> Result<Line, Refusal>
     ensures { Reads result (buffered_of words.entry) }
 {
-    let name = Name::read(alloc, words.next().ok_or(Refusal::Invalid)?)?;
+    let name = Name::new(alloc, words.next().ok_or(Refusal::Invalid)?)?;
     let word = words.next().ok_or(Refusal::Invalid)?;
     let room = parse_room(word).ok_or(Refusal::Invalid)?;
     let plan = WritePlan::read(alloc, words.next().ok_or(Refusal::Invalid)?)?;
@@ -181,10 +181,10 @@ fn parse_turn(alloc: Global, mut words: Parts) -> Result<Line, Refusal>
 {
     let word = words.next().ok_or(Refusal::Invalid)?;
     if is(word, b"in") {
-        let name = Name::read(alloc, only(words).ok_or(Refusal::Invalid)?)?;
+        let name = Name::new(alloc, only(words).ok_or(Refusal::Invalid)?)?;
         Ok(Line::Turn(StreamTask::Reader(name)))
     } else if is(word, b"out") {
-        let name = Name::read(alloc, only(words).ok_or(Refusal::Invalid)?)?;
+        let name = Name::new(alloc, only(words).ok_or(Refusal::Invalid)?)?;
         Ok(Line::Turn(StreamTask::Writer(name)))
     } else {
         Err(Refusal::Invalid)
