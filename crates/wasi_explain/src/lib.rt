@@ -1,0 +1,18 @@
+//! What is wrong with the first line of a script that is not valid: its place and the reason.
+#![tactic(auto)]
+
+mod bad_line;
+mod check;
+mod declared;
+mod fields;
+mod forms;
+mod lines;
+mod plans;
+mod reason;
+mod words;
+
+pub use bad_line::{BadLine, explain};
+pub use reason::Reason;
+
+#[cfg(test)]
+mod tests;
