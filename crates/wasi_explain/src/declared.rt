@@ -4,13 +4,19 @@ use crate::words::Words;
 use std::alloc::Global;
 use wasi_base::OutOfMemory;
 
+/// What a stream is to its guests.
+#[derive(Clone, Copy, Debug, PartialEq, Eq, Drop)]
+pub enum Stream {
+    Input,
+    Output,
+}
+
 /// What lines declared, and which guests called in them.
 #[derive(Drop)]
 pub struct Declared<'a> {
     guests: [bool; 64],
     callers: [bool; 64],
-    inputs: Vec<&'a [u8]>,
-    outputs: Vec<&'a [u8]>,
+    streams: Vec<(&'a [u8], Stream)>,
 }
 
 impl<'a> Declared<'a> {
@@ -19,8 +25,7 @@ impl<'a> Declared<'a> {
         let mut declared = Declared {
             guests: [false; 64],
             callers: [false; 64],
-            inputs: Vec::new(alloc),
-            outputs: Vec::new(alloc),
+            streams: Vec::new(alloc),
         };
         for line in lines.split(|byte| *byte == b'\n') {
             declared.add_line(line)?;
@@ -43,8 +48,7 @@ impl<'a> Declared<'a> {
 
     fn add(&mut self, field: Field, word: &'a [u8]) -> Result<(), OutOfMemory> {
         match field {
-            Field::NewInput => self.inputs.push(word)?,
-            Field::NewOutput => self.outputs.push(word)?,
+            Field::NewStream(stream) => self.streams.push((word, stream))?,
             Field::NewGuest => mark(&mut self.guests, word),
             Field::Caller => mark(&mut self.callers, word),
             _ => {}
@@ -60,17 +64,15 @@ impl<'a> Declared<'a> {
         is_marked(&self.callers, number)
     }
 
-    pub fn has_input(&self, name: &[u8]) -> bool {
-        self.inputs.iter().any(|input| *input == name)
+    /// What the stream of a name is, if there is one.
+    pub fn stream(&self, name: &[u8]) -> Option<Stream> {
+        let found = self.streams.iter().find(|row| row.0 == name)?;
+        Some(found.1)
     }
 
-    pub fn has_output(&self, name: &[u8]) -> bool {
-        self.outputs.iter().any(|output| *output == name)
-    }
-
-    /// Whether there are as many names as a script may have.
+    /// Whether there are as many streams as a script may have.
     pub fn is_full(&self) -> bool {
-        self.inputs.len() >= 64 || self.outputs.len() >= 64 - self.inputs.len()
+        self.streams.len() >= 64
     }
 }
 

@@ -1,14 +1,12 @@
-use crate::declared::Declared;
+use crate::declared::{Declared, Stream};
 use crate::plans::{check_read_plan, check_write_plan};
 use crate::reason::Reason;
 
 /// What a word of a line has to be.
 #[derive(Clone, Copy, Debug, PartialEq, Eq, Drop)]
 pub enum Field {
-    /// The name of the input that the line declares.
-    NewInput,
-    /// The name of the output that the line declares.
-    NewOutput,
+    /// The name of the stream that the line declares.
+    NewStream(Stream),
     /// The guest that the line declares.
     NewGuest,
     /// A declared guest that has made no call.
@@ -35,7 +33,7 @@ impl Field {
     /// Why a word is not such a field after the lines so far.
     pub fn check(self, word: &[u8], declared: &Declared) -> Result<(), Reason> {
         match self {
-            Field::NewInput | Field::NewOutput => check_new_name(word, declared),
+            Field::NewStream(_) => check_new_name(word, declared),
             Field::NewGuest => check_new_guest(word, declared),
             Field::Configured => check_configured(word, declared),
             Field::Caller => check_caller(word, declared),
@@ -122,7 +120,7 @@ fn check_configured(word: &[u8], declared: &Declared) -> Result<(), Reason> {
 fn check_new_name(word: &[u8], declared: &Declared) -> Result<(), Reason> {
     if !is_name(word) {
         Err(Reason::BadName)
-    } else if declared.has_input(word) || declared.has_output(word) {
+    } else if declared.stream(word).is_some() {
         Err(Reason::NameTwice)
     } else if declared.is_full() {
         Err(Reason::TooManyNames)
@@ -145,20 +143,26 @@ fn is_name(word: &[u8]) -> bool {
 fn check_input(word: &[u8], declared: &Declared) -> Result<(), Reason> {
     match word {
         b"shared" | b"empty" | b"closed" => Ok(()),
-        name if declared.has_input(name) => Ok(()),
-        name if declared.has_output(name) => Err(Reason::OutputAsInput),
-        name if is_name(name) => Err(Reason::UnknownInput),
-        _ => Err(Reason::NotAnInput),
+        _ => check_stream(Stream::Input, word, declared),
     }
 }
 
 fn check_output(word: &[u8], declared: &Declared) -> Result<(), Reason> {
     match word {
         b"empty" | b"sink" | b"closed" => Ok(()),
-        name if declared.has_output(name) => Ok(()),
-        name if declared.has_input(name) => Err(Reason::InputAsOutput),
-        name if is_name(name) => Err(Reason::UnknownOutput),
-        _ => Err(Reason::NotAnOutput),
+        _ => check_stream(Stream::Output, word, declared),
+    }
+}
+
+fn check_stream(wanted: Stream, name: &[u8], declared: &Declared) -> Result<(), Reason> {
+    match (wanted, declared.stream(name)) {
+        (Stream::Input, Some(Stream::Input)) | (Stream::Output, Some(Stream::Output)) => Ok(()),
+        (Stream::Input, Some(Stream::Output)) => Err(Reason::OutputAsInput),
+        (Stream::Output, Some(Stream::Input)) => Err(Reason::InputAsOutput),
+        (Stream::Input, None) if is_name(name) => Err(Reason::UnknownInput),
+        (Stream::Output, None) if is_name(name) => Err(Reason::UnknownOutput),
+        (Stream::Input, None) => Err(Reason::NotAnInput),
+        (Stream::Output, None) => Err(Reason::NotAnOutput),
     }
 }
 

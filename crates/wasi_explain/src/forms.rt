@@ -1,15 +1,24 @@
 //! The words of each line and of each call.
 
+use crate::declared::Stream;
 use crate::fields::Field;
 
 /// What the words of a line after its first one have to be. After `call G` stand the name of a call
 /// and its words.
 pub fn line_fields(word: &[u8]) -> Option<&'static [Field]> {
     match word {
-        b"pipe" => Some(&[Field::NewInput, Field::DeclaredBytes]),
-        b"infile" => Some(&[Field::NewInput, Field::DeclaredBytes, Field::ReadPlan]),
-        b"outpipe" => Some(&[Field::NewOutput, Field::Room]),
-        b"outfile" | b"stdio" => Some(&[Field::NewOutput, Field::Room, Field::WritePlan]),
+        b"pipe" => Some(&[Field::NewStream(Stream::Input), Field::DeclaredBytes]),
+        b"infile" => Some(&[
+            Field::NewStream(Stream::Input),
+            Field::DeclaredBytes,
+            Field::ReadPlan,
+        ]),
+        b"outpipe" => Some(&[Field::NewStream(Stream::Output), Field::Room]),
+        b"outfile" | b"stdio" => Some(&[
+            Field::NewStream(Stream::Output),
+            Field::Room,
+            Field::WritePlan,
+        ]),
         b"guest" => Some(&[Field::NewGuest, Field::Input]),
         b"stdout" | b"stderr" => Some(&[Field::Configured, Field::Output]),
         b"capacity" => Some(&[Field::Configured, Field::Capacity]),

@@ -25,7 +25,7 @@ pub enum Reason {
     TooManyDigits,
     #[error("number out of range: {least} to {most}")]
     OutOfRange { least: u64, most: u64 },
-    #[error("bad name: not an upper-case letter and then at most 31 letters, digits or `_`")]
+    #[error("bad name: not an upper-case letter and then at most 31 letters, digits or _")]
     BadName,
     #[error("bad hexadecimal: not a digit")]
     BadDigit,
@@ -43,11 +43,11 @@ pub enum Reason {
     FlushOfInput,
     #[error("bad plan: more than 1024 items")]
     TooManyItems,
-    #[error("neither `ok` nor `err`")]
+    #[error("neither ok nor err")]
     BadStatus,
-    #[error("not an input: not `shared`, `empty`, `closed` or a name")]
+    #[error("not an input: not shared, empty, closed or a name")]
     NotAnInput,
-    #[error("not an output: not `empty`, `sink`, `closed` or a name")]
+    #[error("not an output: not empty, sink, closed or a name")]
     NotAnOutput,
     #[error("an output's name in place of an input's")]
     OutputAsInput,
