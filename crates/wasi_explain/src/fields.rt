@@ -1,0 +1,214 @@
+use crate::declared::{Declared, Stream};
+use crate::plans::{check_read_plan, check_write_plan};
+use crate::reason::Reason;
+
+/// What a word of a line has to be.
+#[derive(Clone, Copy, Debug, PartialEq, Eq, Drop)]
+pub enum Field {
+    /// The name of the stream that the line declares.
+    NewStream(Stream),
+    /// The guest that the line declares.
+    NewGuest,
+    /// A declared guest that has made no call.
+    Configured,
+    /// A declared guest, which makes a call.
+    Caller,
+    /// What a guest may read.
+    Input,
+    /// What a guest may write to.
+    Output,
+    Bytes,
+    /// At most 1048576 bytes.
+    DeclaredBytes,
+    ReadPlan,
+    WritePlan,
+    Number,
+    Room,
+    Capacity,
+    ExitStatus,
+    ExitCode,
+}
+
+impl Field {
+    /// Why a word is not such a field after the lines so far.
+    pub fn check(self, word: &[u8], declared: &Declared) -> Result<(), Reason> {
+        match self {
+            Field::NewStream(_) => check_new_name(word, declared),
+            Field::NewGuest => check_new_guest(word, declared),
+            Field::Configured => check_configured(word, declared),
+            Field::Caller => check_caller(word, declared),
+            Field::Input => check_input(word, declared),
+            Field::Output => check_output(word, declared),
+            Field::Bytes => check_bytes(word),
+            Field::DeclaredBytes => check_declared_bytes(word),
+            Field::ReadPlan => check_read_plan(word),
+            Field::WritePlan => check_write_plan(word),
+            Field::Number => check_number(word, 0, u64::MAX),
+            Field::Room => check_number(word, 0, MOST_BYTES),
+            Field::Capacity => check_number(word, 1, 65536),
+            Field::ExitStatus => check_status(word),
+            Field::ExitCode => check_number(word, 0, 255),
+        }
+    }
+}
+
+/// The most bytes that a declaration or a repeated byte may have.
+const MOST_BYTES: u64 = 1048576;
+
+/// The number that a word is, or why it is none in this range.
+pub fn number(word: &[u8], least: u64, most: u64) -> Result<u64, Reason> {
+    if word.is_empty() || !word.iter().all(|byte| byte.is_ascii_digit()) {
+        return Err(Reason::NotANumber);
+    }
+    if word.len() > 20 {
+        return Err(Reason::TooManyDigits);
+    }
+    match decimal(word) {
+        Some(number) if least <= number && number <= most => Ok(number),
+        _ => Err(Reason::OutOfRange { least, most }),
+    }
+}
+
+fn decimal(digits: &[u8]) -> Option<u64> {
+    match std::str::from_utf8(digits) {
+        Ok(digits) => digits.parse().ok(),
+        Err(_) => None,
+    }
+}
+
+pub fn check_number(word: &[u8], least: u64, most: u64) -> Result<(), Reason> {
+    number(word, least, most)?;
+    Ok(())
+}
+
+pub fn guest_number(word: &[u8]) -> Result<u64, Reason> {
+    number(word, 0, 63)
+}
+
+fn check_new_guest(word: &[u8], declared: &Declared) -> Result<(), Reason> {
+    let guest = guest_number(word)?;
+    if declared.has_guest(guest) {
+        Err(Reason::GuestTwice)
+    } else {
+        Ok(())
+    }
+}
+
+fn declared_guest(word: &[u8], declared: &Declared) -> Result<u64, Reason> {
+    let guest = guest_number(word)?;
+    if declared.has_guest(guest) {
+        Ok(guest)
+    } else {
+        Err(Reason::UnknownGuest)
+    }
+}
+
+fn check_caller(word: &[u8], declared: &Declared) -> Result<(), Reason> {
+    declared_guest(word, declared)?;
+    Ok(())
+}
+
+fn check_configured(word: &[u8], declared: &Declared) -> Result<(), Reason> {
+    let guest = declared_guest(word, declared)?;
+    if declared.has_called(guest) {
+        Err(Reason::AfterFirstCall)
+    } else {
+        Ok(())
+    }
+}
+
+fn check_new_name(word: &[u8], declared: &Declared) -> Result<(), Reason> {
+    if !is_name(word) {
+        Err(Reason::BadName)
+    } else if declared.stream(word).is_some() {
+        Err(Reason::NameTwice)
+    } else if declared.is_full() {
+        Err(Reason::TooManyNames)
+    } else {
+        Ok(())
+    }
+}
+
+fn is_name(word: &[u8]) -> bool {
+    match word {
+        [first, rest @ ..] => first.is_ascii_uppercase()
+            && rest.len() <= 31
+            && rest
+                .iter()
+                .all(|byte| byte.is_ascii_alphanumeric() || *byte == b'_'),
+        [] => false,
+    }
+}
+
+fn check_input(word: &[u8], declared: &Declared) -> Result<(), Reason> {
+    match word {
+        b"shared" | b"empty" | b"closed" => Ok(()),
+        _ => check_stream(Stream::Input, word, declared),
+    }
+}
+
+fn check_output(word: &[u8], declared: &Declared) -> Result<(), Reason> {
+    match word {
+        b"empty" | b"sink" | b"closed" => Ok(()),
+        _ => check_stream(Stream::Output, word, declared),
+    }
+}
+
+fn check_stream(wanted: Stream, name: &[u8], declared: &Declared) -> Result<(), Reason> {
+    match (wanted, declared.stream(name)) {
+        (Stream::Input, Some(Stream::Input)) | (Stream::Output, Some(Stream::Output)) => Ok(()),
+        (Stream::Input, Some(Stream::Output)) => Err(Reason::OutputAsInput),
+        (Stream::Output, Some(Stream::Input)) => Err(Reason::InputAsOutput),
+        (Stream::Input, None) if is_name(name) => Err(Reason::UnknownInput),
+        (Stream::Output, None) if is_name(name) => Err(Reason::UnknownOutput),
+        (Stream::Input, None) => Err(Reason::NotAnInput),
+        (Stream::Output, None) => Err(Reason::NotAnOutput),
+    }
+}
+
+fn check_status(word: &[u8]) -> Result<(), Reason> {
+    match word {
+        b"ok" | b"err" => Ok(()),
+        _ => Err(Reason::BadStatus),
+    }
+}
+
+// `-`, `K*HH`, or digits in pairs
+fn check_bytes(word: &[u8]) -> Result<(), Reason> {
+    if word == b"-".as_slice() {
+        return Ok(());
+    }
+    match word.iter().position(|byte| *byte == b'*') {
+        Some(star) => {
+            check_number(&word[..star], 1, MOST_BYTES)?;
+            check_byte(&word[star + 1..])
+        }
+        None => check_digits(word),
+    }
+}
+
+fn check_byte(digits: &[u8]) -> Result<(), Reason> {
+    if digits.len() != 2 {
+        return Err(Reason::NotOneByte);
+    }
+    check_digits(digits)
+}
+
+fn check_digits(digits: &[u8]) -> Result<(), Reason> {
+    if !digits.iter().all(|byte| byte.is_ascii_hexdigit()) {
+        Err(Reason::BadDigit)
+    } else if digits.len() % 2 == 1 {
+        Err(Reason::OddDigits)
+    } else {
+        Ok(())
+    }
+}
+
+fn check_declared_bytes(word: &[u8]) -> Result<(), Reason> {
+    check_bytes(word)?;
+    if word.len() > 2097152 {
+        Err(Reason::TooManyBytes)
+    } else {
+        Ok(())
+    }
+}

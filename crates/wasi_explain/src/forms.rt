@@ -1,0 +1,44 @@
+//! The words of each line and of each call.
+
+use crate::declared::Stream;
+use crate::fields::Field;
+
+/// What the words of a line after its first one have to be. After `call G` stand the name of a call
+/// and its words.
+pub fn line_fields(word: &[u8]) -> Option<&'static [Field]> {
+    match word {
+        b"pipe" => Some(&[Field::NewStream(Stream::Input), Field::DeclaredBytes]),
+        b"infile" => Some(&[
+            Field::NewStream(Stream::Input),
+            Field::DeclaredBytes,
+            Field::ReadPlan,
+        ]),
+        b"outpipe" => Some(&[Field::NewStream(Stream::Output), Field::Room]),
+        b"outfile" | b"stdio" => Some(&[
+            Field::NewStream(Stream::Output),
+            Field::Room,
+            Field::WritePlan,
+        ]),
+        b"guest" => Some(&[Field::NewGuest, Field::Input]),
+        b"stdout" | b"stderr" => Some(&[Field::Configured, Field::Output]),
+        b"capacity" => Some(&[Field::Configured, Field::Capacity]),
+        b"call" => Some(&[Field::Caller]),
+        b"capture" | b"deliver" => Some(&[]),
+        _ => None,
+    }
+}
+
+/// What the words of a call after its name have to be.
+pub fn call_fields(name: &[u8]) -> Option<&'static [Field]> {
+    match name {
+        b"get-stdin" | b"get-stdout" | b"get-stderr" => Some(&[]),
+        b"async-stdin" | b"async-stdout" | b"async-stderr" => Some(&[]),
+        b"read" | b"skip" | b"poll-read" => Some(&[Field::Number, Field::Number]),
+        b"write" | b"poll-write" => Some(&[Field::Number, Field::Bytes]),
+        b"check-write" | b"flush" | b"poll-flush" => Some(&[Field::Number]),
+        b"subscribe" | b"ready" | b"block" | b"drop" => Some(&[Field::Number]),
+        b"exit" => Some(&[Field::ExitStatus]),
+        b"exit-code" => Some(&[Field::ExitCode]),
+        _ => None,
+    }
+}

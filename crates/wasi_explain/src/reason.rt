@@ -1,0 +1,73 @@
+use thiserror::Error;
+
+/// What is wrong with a line of a script. Its text says it in plain words.
+#[derive(Clone, Copy, Debug, PartialEq, Eq, Drop, Error)]
+pub enum Reason {
+    #[error("tab")]
+    Tab,
+    #[error("carriage return")]
+    CarriageReturn,
+    #[error("byte that is not printable ASCII")]
+    NotPrintable,
+    #[error("blank too many")]
+    ExtraBlank,
+    #[error("no such line")]
+    NoSuchLine,
+    #[error("no such call")]
+    NoSuchCall,
+    #[error("word missing")]
+    MissingWord,
+    #[error("word too many")]
+    ExtraWord,
+    #[error("not a number")]
+    NotANumber,
+    #[error("number of more than 20 digits")]
+    TooManyDigits,
+    #[error("number out of range: {least} to {most}")]
+    OutOfRange { least: u64, most: u64 },
+    #[error("bad name: not an upper-case letter and then at most 31 letters, digits or _")]
+    BadName,
+    #[error("bad hexadecimal: not a digit")]
+    BadDigit,
+    #[error("bad hexadecimal: odd number of digits")]
+    OddDigits,
+    #[error("bad hexadecimal: not the two digits of one byte")]
+    NotOneByte,
+    #[error("more than 1048576 bytes")]
+    TooManyBytes,
+    #[error("bad plan: no such item")]
+    BadItem,
+    #[error("bad plan: no such kind of fault")]
+    BadKind,
+    #[error("bad plan: a flush fault of an input")]
+    FlushOfInput,
+    #[error("bad plan: more than 1024 items")]
+    TooManyItems,
+    #[error("neither ok nor err")]
+    BadStatus,
+    #[error("not an input: not shared, empty, closed or a name")]
+    NotAnInput,
+    #[error("not an output: not empty, sink, closed or a name")]
+    NotAnOutput,
+    #[error("an output's name in place of an input's")]
+    OutputAsInput,
+    #[error("an input's name in place of an output's")]
+    InputAsOutput,
+    #[error("guest not declared yet")]
+    UnknownGuest,
+    #[error("input not declared yet")]
+    UnknownInput,
+    #[error("output not declared yet")]
+    UnknownOutput,
+    #[error("guest declared twice")]
+    GuestTwice,
+    #[error("name declared twice")]
+    NameTwice,
+    #[error("more than 64 names")]
+    TooManyNames,
+    #[error("after the guest's first call")]
+    AfterFirstCall,
+    /// None of the others. No such script is known.
+    #[error("not a valid line")]
+    Other,
+}
