@@ -24,6 +24,9 @@ repeated_of = with_first count_of (λ count. with_last byte_of (λ byte. replica
 abbrev pub byte_string_of : List ℕ → Option (List ℕ)
 byte_string_of text = cond (bytes_eq text (codes "-")) (Some []) (option_or (repeated_of (slice_split (λ byte. nat_eq byte 42) text)) (hex_of text))
 
--- at most 1048576 bytes
+-- the bytes of a declared input, at most 1048576
+abbrev pub declared_bytes : List ℕ → Option (List ℕ)
+declared_bytes bytes = cond (nat_le (length bytes) 1048576) (Some bytes) None
+
 abbrev pub declared_bytes_of : List ℕ → Option (List ℕ)
-declared_bytes_of text = option_and_then (λ bytes. cond (nat_le (length bytes) 1048576) (Some bytes) None) (byte_string_of text)
+declared_bytes_of text = option_and_then declared_bytes (byte_string_of text)

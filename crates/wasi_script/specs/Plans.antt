@@ -1,5 +1,5 @@
 -- The plans of sources and sinks.
-use Rattle.std.specs.Prelude.{ℕ, cond, nat_le, nat_eq, List, [], ◌∷◌, length, Option, Some, None, codes}
+use Rattle.std.specs.Prelude.{ℕ, Bool, cond, nat_le, nat_eq, List, [], ◌∷◌, length, Option, Some, None, codes}
 use Rattle.std.specs.List.{slice_split}
 use Rattle.std.specs.Option.{option_and_then, option_map}
 use Rattle.std.specs.Str.{bytes_eq}
@@ -27,9 +27,16 @@ abbrev pub each_of : {A : Type 0} → (List ℕ → Option A) → List (List ℕ
 each_of meaning [] = Some []
 each_of meaning (text ∷ texts) = option_and_then (λ item. option_map (λ items. item ∷ items) (each_of meaning texts)) (meaning text)
 
--- at most 1024 items
+-- a plan has at most 1024 items
+abbrev pub is_short : {A : Type 0} → List A → Bool
+is_short items = nat_le (length items) 1024
+
+abbrev pub plan_with : {A : Type 0} → List A → Option (List A)
+plan_with items = cond (is_short items) (Some items) None
+
+-- the items of texts
 abbrev pub items_of : {A : Type 0} → (List ℕ → Option A) → List (List ℕ) → Option (List A)
-items_of meaning texts = cond (nat_le (length texts) 1024) (each_of meaning texts) None
+items_of meaning texts = cond (is_short texts) (each_of meaning texts) None
 
 -- `-` for no items, or items between commas
 abbrev pub plan_of : {A : Type 0} → (List ℕ → Option A) → List ℕ → Option (List A)

@@ -1,5 +1,5 @@
 ghost use Rattle.std.specs.Prelude.{◌≡◌, length, IfOk};
-ghost use Rattle.wasi_script.specs.Bytes.{hex_of, byte_of, repeated_of, byte_string_of, declared_bytes_of};
+ghost use Rattle.wasi_script.specs.Bytes.{hex_of, byte_of, repeated_of, byte_string_of, declared_bytes_of, declared_bytes};
 ghost use Rattle.wasi_script.specs.Reads.{Reads};
 
 use crate::numbers::parse_count;
@@ -32,6 +32,22 @@ impl Model for ByteString {
 }
 
 impl ByteString {
+    /// These bytes.
+    pub fn from_vec(bytes: Vec<u8>) -> ByteString
+        ensures { result ≡ bytes.items }
+    {
+        ByteString {
+            kept: Kept::Listed(bytes),
+        }
+    }
+
+    /// The bytes of a declared input. Refused where they are more than 1048576.
+    pub fn declared_from_vec(bytes: Vec<u8>) -> Option<ByteString>
+        ensures { result ≡ declared_bytes bytes.items }
+    {
+        ByteString::from_vec(bytes).declared()
+    }
+
     /// How many bytes there are.
     pub fn len(&self) -> u64
         ensures { result ≡ length self.now }
@@ -63,8 +79,7 @@ impl ByteString {
         ensures { Reads result (byte_string_of text.now) }
     {
         if is(text, b"-") {
-            let kept = Kept::Listed(Vec::new(alloc));
-            return Ok(ByteString { kept });
+            return Ok(ByteString::from_vec(Vec::new(alloc)));
         }
         match ByteString::repeated(Parts::new(text, b'*')) {
             Some(bytes) => Ok(bytes),
@@ -77,10 +92,17 @@ impl ByteString {
         ensures { Reads result (declared_bytes_of text.now) }
     {
         let bytes = ByteString::read(alloc, text)?;
-        if bytes.len() <= 1048576 {
-            Ok(bytes)
+        bytes.declared().ok_or(Refusal::Invalid)
+    }
+
+    // the same bytes, where a declared input may have them
+    fn declared(self) -> Option<ByteString>
+        ensures { result ≡ declared_bytes self }
+    {
+        if self.len() <= 1048576 {
+            Some(self)
         } else {
-            Err(Refusal::Invalid)
+            None
         }
     }
 
@@ -103,9 +125,7 @@ impl ByteString {
             return Err(Refusal::Invalid);
         }
         match hex::decode(alloc, text) {
-            Ok(bytes) => Ok(ByteString {
-                kept: Kept::Listed(bytes),
-            }),
+            Ok(bytes) => Ok(ByteString::from_vec(bytes)),
             Err(FromHexError::OutOfMemory) => Err(Refusal::OutOfMemory),
             Err(_) => Err(Refusal::Invalid),
         }

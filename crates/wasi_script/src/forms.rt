@@ -128,7 +128,7 @@ fn worker(words: Parts, turn: WorkerTurn) -> Result<Line, Refusal>
 fn parse_pipe(alloc: Global, mut words: Parts) -> Result<Line, Refusal>
     ensures { Reads result (pipe_of words.entry) }
 {
-    let name = Name::read(alloc, words.next().ok_or(Refusal::Invalid)?)?;
+    let name = Name::new(alloc, words.next().ok_or(Refusal::Invalid)?)?;
     let bytes = ByteString::read_declared(alloc, only(words).ok_or(Refusal::Invalid)?)?;
     Ok(input(name, InputDeclaration::Pipe { bytes }))
 }
@@ -139,7 +139,7 @@ fn name_bytes_and_plan(
 ) -> Result<(Name, ByteString, ReadPlan), Refusal>
     ensures { Reads result (source_fields words.entry) }
 {
-    let name = Name::read(alloc, words.next().ok_or(Refusal::Invalid)?)?;
+    let name = Name::new(alloc, words.next().ok_or(Refusal::Invalid)?)?;
     let bytes = ByteString::read_declared(alloc, words.next().ok_or(Refusal::Invalid)?)?;
     let plan = ReadPlan::read(alloc, only(words).ok_or(Refusal::Invalid)?)?;
     Ok((name, bytes, plan))
@@ -148,7 +148,7 @@ fn name_bytes_and_plan(
 fn parse_out_pipe(alloc: Global, mut words: Parts) -> Result<Line, Refusal>
     ensures { Reads result (out_pipe_of words.entry) }
 {
-    let name = Name::read(alloc, words.next().ok_or(Refusal::Invalid)?)?;
+    let name = Name::new(alloc, words.next().ok_or(Refusal::Invalid)?)?;
     let word = only(words).ok_or(Refusal::Invalid)?;
     let capacity = parse_room(word).ok_or(Refusal::Invalid)?;
     Ok(output(name, OutputDeclaration::Pipe { capacity }))
@@ -157,7 +157,7 @@ fn parse_out_pipe(alloc: Global, mut words: Parts) -> Result<Line, Refusal>
 fn name_room_and_plan(alloc: Global, mut words: Parts) -> Result<(Name, u64, WritePlan), Refusal>
     ensures { Reads result (sink_fields words.entry) }
 {
-    let name = Name::read(alloc, words.next().ok_or(Refusal::Invalid)?)?;
+    let name = Name::new(alloc, words.next().ok_or(Refusal::Invalid)?)?;
     let word = words.next().ok_or(Refusal::Invalid)?;
     let room = parse_room(word).ok_or(Refusal::Invalid)?;
     let plan = WritePlan::read(alloc, only(words).ok_or(Refusal::Invalid)?)?;
@@ -167,7 +167,7 @@ fn name_room_and_plan(alloc: Global, mut words: Parts) -> Result<(Name, u64, Wri
 fn parse_buffered(alloc: Global, mut words: Parts) -> Result<Line, Refusal>
     ensures { Reads result (buffered_of words.entry) }
 {
-    let name = Name::read(alloc, words.next().ok_or(Refusal::Invalid)?)?;
+    let name = Name::new(alloc, words.next().ok_or(Refusal::Invalid)?)?;
     let word = words.next().ok_or(Refusal::Invalid)?;
     let room = parse_room(word).ok_or(Refusal::Invalid)?;
     let plan = WritePlan::read(alloc, words.next().ok_or(Refusal::Invalid)?)?;
@@ -181,10 +181,10 @@ fn parse_turn(alloc: Global, mut words: Parts) -> Result<Line, Refusal>
 {
     let word = words.next().ok_or(Refusal::Invalid)?;
     if is(word, b"in") {
-        let name = Name::read(alloc, only(words).ok_or(Refusal::Invalid)?)?;
+        let name = Name::new(alloc, only(words).ok_or(Refusal::Invalid)?)?;
         Ok(Line::Turn(StreamTask::Reader(name)))
     } else if is(word, b"out") {
-        let name = Name::read(alloc, only(words).ok_or(Refusal::Invalid)?)?;
+        let name = Name::new(alloc, only(words).ok_or(Refusal::Invalid)?)?;
         Ok(Line::Turn(StreamTask::Writer(name)))
     } else {
         Err(Refusal::Invalid)
@@ -356,7 +356,7 @@ fn parse_input(alloc: Global, word: &[u8]) -> Result<Input, Refusal>
     } else if is(word, b"closed") {
         Ok(Input::Closed)
     } else {
-        let name = Name::read(alloc, word)?;
+        let name = Name::new(alloc, word)?;
         Ok(Input::Named(name))
     }
 }
@@ -371,7 +371,7 @@ fn parse_output(alloc: Global, word: &[u8]) -> Result<Output, Refusal>
     } else if is(word, b"closed") {
         Ok(Output::Closed)
     } else {
-        let name = Name::read(alloc, word)?;
+        let name = Name::new(alloc, word)?;
         Ok(Output::Named(name))
     }
 }

@@ -23,6 +23,7 @@ pub use lines::{
 pub use name::Name;
 pub use parse::{Script, ScriptError, parse_script, read_after};
 pub use plan::{ReadPlan, WritePlan};
+pub use refusal::Refusal;
 
 #[cfg(test)]
 mod tests;

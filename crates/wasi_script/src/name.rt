@@ -37,8 +37,8 @@ impl Name {
         Ok(Name { bytes })
     }
 
-    /// The name that a text is.
-    pub(crate) fn read(alloc: Global, text: &[u8]) -> Result<Name, Refusal>
+    /// The name that a text is. Refused where it is none.
+    pub fn new(alloc: Global, text: &[u8]) -> Result<Name, Refusal>
         ensures { Reads result (name_of text.now) }
     {
         if !is_valid(text) {

@@ -1,5 +1,5 @@
 ghost use Rattle.std.specs.Prelude.{◌≡◌, ℕ, List, Option, IfOk};
-ghost use Rattle.wasi_script.specs.Plans.{plan_of, read_plan_of, write_plan_of, take_or_fail, take_or_fail_or_flush_fail};
+ghost use Rattle.wasi_script.specs.Plans.{plan_of, plan_with, read_plan_of, write_plan_of, take_or_fail, take_or_fail_or_flush_fail};
 ghost use Rattle.wasi_script.specs.Reads.{Reads, ReadsItems};
 
 use crate::numbers::parse_number;
@@ -25,6 +25,17 @@ impl Model for ReadPlan {
 }
 
 impl ReadPlan {
+    /// The plan of these items. Refused where they are more than 1024.
+    pub fn new(alloc: Global, items: Vec<Plan>) -> Result<ReadPlan, Refusal>
+        ensures { Reads result (plan_with items.items) }
+    {
+        if items.len() > 1024 {
+            return Err(Refusal::Invalid);
+        }
+        let items = Box::new(alloc, items)?;
+        Ok(ReadPlan { items })
+    }
+
     /// The plan's items, in order.
     pub fn to_vec(&self, alloc: Global) -> Result<Vec<Plan>, OutOfMemory>
         ensures { IfOk result (λ items. items.items ≡ self.now) }
@@ -58,6 +69,17 @@ impl Model for WritePlan {
 }
 
 impl WritePlan {
+    /// The plan of these items. Refused where they are more than 1024.
+    pub fn new(alloc: Global, items: Vec<SinkPlan>) -> Result<WritePlan, Refusal>
+        ensures { Reads result (plan_with items.items) }
+    {
+        if items.len() > 1024 {
+            return Err(Refusal::Invalid);
+        }
+        let items = Box::new(alloc, items)?;
+        Ok(WritePlan { items })
+    }
+
     /// The plan's items, in order.
     pub fn to_vec(&self, alloc: Global) -> Result<Vec<SinkPlan>, OutOfMemory>
         ensures { IfOk result (λ items. items.items ≡ self.now) }

@@ -1,11 +1,13 @@
 use std::alloc::{AllocError, AllocFailed};
+use thiserror::Error;
 use wasi_base::OutOfMemory;
 
-/// Why a part of a line isn't read.
-#[derive(Clone, Copy, Debug, PartialEq, Eq, Drop)]
+/// Why there is no such line, or no such part of a line.
+#[derive(Clone, Copy, Debug, PartialEq, Eq, Drop, Error)]
 pub enum Refusal {
-    /// It is of no form.
+    #[error("not valid")]
     Invalid,
+    #[error("out of memory")]
     OutOfMemory,
 }
 

@@ -6,8 +6,8 @@ mod calls;
 mod refusals;
 
 use crate::{
-    ByteString, Input, InputDeclaration, Line, Name, Output, OutputDeclaration, Script,
-    ScriptError, Setting, parse_script,
+    ByteString, Input, InputDeclaration, Line, Name, Output, OutputDeclaration, ReadPlan, Refusal,
+    Script, ScriptError, Setting, WritePlan, parse_script,
 };
 use std::alloc::Global;
 use std::process::Abort;
@@ -101,6 +101,21 @@ fn check_read_plan(rt: &impl Abort, alloc: Global, text: &str, list: &[Plan]) ->
         }
         _ => panic!(rt; "{text}"),
     }
+}
+
+#[test]
+fn fields_are_made_without_a_script(rt: HostRuntime) -> Result<(), Fail> {
+    let alloc = rt.alloc();
+    check_name(&rt, &Name::new(alloc, b"Out_1")?, b"Out_1");
+    assert_eq!(rt; Name::new(alloc, b"out").err(), Some(Refusal::Invalid));
+    let reads = ReadPlan::new(alloc, vec![in alloc; Plan::Take(7); 1024]?)?;
+    assert_eq!(rt; reads.to_vec(alloc)?.len(), 1024);
+    let writes = WritePlan::new(alloc, Vec::from_array(alloc, [SinkPlan::Take(7)])?)?;
+    assert_eq!(rt;
+        writes.to_vec(alloc)?.as_slice(),
+        [SinkPlan::Take(7)].as_slice()
+    );
+    Ok(())
 }
 
 #[test]

@@ -1,4 +1,5 @@
 pub mod GuestFacts
+pub mod LiveFacts
 pub mod LoopFacts
 pub mod ReadFacts
 pub mod RowFacts

@@ -4,3 +4,4 @@ pub mod Program
 pub mod Makes
 pub mod Capacities
 pub mod StreamCalls
+pub mod Live

@@ -4,6 +4,7 @@
 mod answers;
 mod guest;
 mod input;
+mod laws;
 mod output;
 mod own;
 mod program;
@@ -17,6 +18,7 @@ mod streams;
 mod tests;
 mod world;
 
+pub use laws::lines_are_taken_in_their_place;
 pub use program::run_program;
 pub use run::{SessionError, run_session};
 pub use session::Session;

@@ -1,12 +1,13 @@
-ghost use Rattle.std.specs.Prelude.{◌≡◌, ◌∷◌, ◌++◌, [], None, IfOk, OnOk, OnErr, length, take};
+ghost use Rattle.std.specs.Prelude.{◌≡◌, ◌+◌, ◌∷◌, ◌++◌, [], None, Some, IfOk, OnOk, OnErr, length, take};
 ghost use Rattle.std.specs.Map.{lookup};
 ghost use Rattle.std.specs.Str.{bytes_eq};
+ghost use Rattle.wasi_script.specs.Grammar.{is_among};
 ghost use Rattle.wasi_reply.specs.Outputs.{output_line, output_lines};
 ghost use Rattle.wasi_host.specs.declared.stream.InStream.TheVariants as in_stream;
 ghost use Rattle.wasi_host.specs.declared.stream.OutStream.TheVariants as out_stream;
 ghost use Rattle.wasi_host.specs.Calls.{called, sent};
 ghost use Rattle.wasi_host.specs.Tasks.{input_turned, output_turned};
-ghost use Rattle.wasi_host.specs.Host.{the_rules, taken_out, put_back, task_told, after_task};
+ghost use Rattle.wasi_host.specs.Host.{the_rules, names_in, is_reader, is_writer, reads_ahead_in, writes_behind_in, taken_out, put_back, task_told, after_task};
 ghost use Rattle.wasi_host.specs.Transcript.{outputs_of};
 ghost use Rattle.wasi_session.specs.Makes.{IsMake};
 ghost use Rattle.wasi_session.specs.StreamCalls.{input_doing, output_doing};
@@ -49,6 +50,47 @@ impl Streams {
         Streams {
             inputs: IndexMap::new(alloc),
             outputs: IndexMap::new(alloc),
+        }
+    }
+
+    /// How many there are, of both kinds.
+    pub fn count(&self) -> usize
+        ensures { result ≡ length (names_in self.now.inputs) + length (names_in self.now.outputs) }
+    {
+        self.inputs.len() + self.outputs.len()
+    }
+
+    /// Whether there is an input of this name.
+    pub fn has_input(&self, name: &[u8]) -> bool
+        ensures { result ≡ is_among name.now (names_in self.now.inputs) }
+    {
+        self.inputs.contains_key(name)
+    }
+
+    /// Whether there is an output of this name.
+    pub fn has_output(&self, name: &[u8]) -> bool
+        ensures { result ≡ is_among name.now (names_in self.now.outputs) }
+    {
+        self.outputs.contains_key(name)
+    }
+
+    /// Whether there is an input of this name that a task reads ahead.
+    pub fn reads_ahead(&self, name: &[u8]) -> bool
+        ensures { result ≡ reads_ahead_in self.now name.now }
+    {
+        match self.inputs.get(name) {
+            Some(input) => is_reader(input),
+            None => false,
+        }
+    }
+
+    /// Whether there is an output of this name that buffers what it accepts for a task.
+    pub fn writes_behind(&self, name: &[u8]) -> bool
+        ensures { result ≡ writes_behind_in self.now name.now }
+    {
+        match self.outputs.get(name) {
+            Some(output) => is_writer(output),
+            None => false,
         }
     }
 
@@ -211,4 +253,18 @@ impl Streams {
         }
         Ok(())
     }
+}
+
+// whether an input is one that a task reads ahead
+fn is_reader(input: &InStream) -> bool
+    ensures { result ≡ is_reader (Some input.now) }
+{
+    matches!(input, InStream::Async(_))
+}
+
+// .. and an output one that buffers
+fn is_writer(output: &OutStream) -> bool
+    ensures { result ≡ is_writer (Some output.now) }
+{
+    matches!(output, OutStream::Buffered(_))
 }

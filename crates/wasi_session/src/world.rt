@@ -9,7 +9,7 @@ ghost use Rattle.wasi_reply.specs.Reply.{OnFault};
 ghost use Rattle.wasi_reply.specs.Outputs.{output_lines};
 ghost use Rattle.wasi_host.specs.Host.{the_rules, new_guest, configured, new_input, new_output, new_outlet, new_host, guest_of, answer, called_in, with_input, with_output, with_guest, delivery_told, after_delivery, captured_told, outcome_told, turn_told, after_turn, task_told, after_task, names_of, IsStep, OnInputFault, Fits, size_read};
 ghost use Rattle.wasi_host.specs.Transcript.{outputs_of};
-ghost use Rattle.std.specs.Option.{option_map};
+ghost use Rattle.std.specs.Option.{option_copied, option_map};
 ghost use Rattle.wasi_stdin.specs.Shared.{capture_of, after_capture};
 
 use crate::guest::Guest;
@@ -23,8 +23,8 @@ use wasi_host::{
 };
 use wasi_reply::{Reply, Told, Worked};
 use wasi_script::{
-    Call, Input, InputDeclaration, Line, Name, OutputDeclaration, Setting, StreamTask, WorkerTurn,
-    WritePlan,
+    Call, Declared, Input, InputDeclaration, Line, Name, OutputDeclaration, Setting, Standard,
+    StreamTask, WorkerTurn, WritePlan,
 };
 use wasi_stdin::{MOST_BYTES, Outcome, StdinCore, deliver_from};
 use wasi_streams::{MemoryInputPipe, MemoryOutputPipe};
@@ -160,6 +160,20 @@ impl World {
         })
     }
 
+    /// How many deliveries were made.
+    pub fn deliveries(&self) -> u64
+        ensures { result ≡ self.now.shared.deliveries }
+    {
+        self.core.deliveries()
+    }
+
+    // The guest of a number.
+    fn guest(&self, number: u32) -> Option<&Guest>
+        ensures { option_copied result ≡ guest_of self.now number }
+    {
+        self.guests.get(number as usize)?.as_ref()
+    }
+
     fn declare_input(
         &mut self,
         alloc: Global,
@@ -288,6 +302,50 @@ impl World {
             Line::Worker(WorkerTurn::Deliver) => Ok(Reply::Worked(self.deliver(stdin))),
             Line::Turn(task) => Ok(Reply::Worked(self.turn(task))),
         }
+    }
+}
+
+impl Declared for World {
+    ghost use Rattle.wasi_host.specs.Host.{names_of};
+
+    ghost names = { names_of };
+
+    fn stream_count(&self) -> usize {
+        self.streams.count()
+    }
+
+    fn has_input(&self, name: &[u8]) -> bool {
+        self.streams.has_input(name)
+    }
+
+    fn has_output(&self, name: &[u8]) -> bool {
+        self.streams.has_output(name)
+    }
+
+    fn has_guest(&self, guest: u32) -> bool {
+        self.guest(guest).is_some()
+    }
+
+    fn was_called(&self, guest: u32) -> bool {
+        match self.guest(guest) {
+            Some(guest) => guest.was_called(),
+            None => false,
+        }
+    }
+
+    fn has_task(&self, stream: Standard, guest: u32) -> bool {
+        match self.guest(guest) {
+            Some(guest) => guest.has_task(stream, &self.streams),
+            None => false,
+        }
+    }
+
+    fn reads_ahead(&self, name: &[u8]) -> bool {
+        self.streams.reads_ahead(name)
+    }
+
+    fn writes_behind(&self, name: &[u8]) -> bool {
+        self.streams.writes_behind(name)
     }
 }
 

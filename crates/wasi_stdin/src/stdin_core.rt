@@ -73,7 +73,8 @@ impl StdinCore {
         self.captured
     }
 
-    fn deliveries(&self) -> u64
+    /// How many deliveries were made.
+    pub fn deliveries(&self) -> u64
         ensures { result ≡ self.now.deliveries }
     {
         self.deliveries
