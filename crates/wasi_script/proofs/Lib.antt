@@ -1,6 +1,5 @@
 pub mod Cuts
 pub mod DeclarationFacts
-pub mod NameSetFacts
 pub mod NumberFacts
 pub mod PlanFacts
 pub mod ScriptFacts

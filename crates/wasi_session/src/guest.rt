@@ -1,11 +1,12 @@
-ghost use Rattle.std.specs.Prelude.{◌≡◌, IfOk, OnOk, OnErr, true, false};
+ghost use Rattle.std.specs.Prelude.{◌≡◌, Some, IfOk, OnOk, OnErr, true, false};
 ghost use Rattle.wasi_reply.specs.Reply.{ends};
 ghost use Rattle.wasi_host.specs.Calls.{opened, owned, exit_status};
 ghost use Rattle.wasi_host.specs.Deeds.{entry_at, apart};
 ghost use Rattle.wasi_session.specs.Makes.{IsMake};
 ghost use Rattle.wasi_session.specs.Capacities.{CapacityFits};
 ghost use Rattle.wasi_session.specs.StreamCalls.{stream_doing};
-ghost use Rattle.wasi_host.specs.Host.{the_rules, new_guest, configured, left_guest, settled, answer_at, answer_to, answer_by};
+ghost use Rattle.wasi_script.specs.Grammar.{input_has_task, output_has_task};
+ghost use Rattle.wasi_host.specs.Host.{task_of, reads_ahead_in, writes_behind_in, the_rules, new_guest, configured, left_guest, settled, answer_at, answer_to, answer_by};
 
 use crate::own::Own;
 use crate::shared;
@@ -65,6 +66,17 @@ impl Guest {
         ensures { result ≡ self.now.was_called }
     {
         self.was_called
+    }
+
+    /// Whether a standard stream of the guest has a task.
+    pub fn has_task(&self, stream: Standard, streams: &Streams) -> bool
+        ensures { result ≡ task_of streams.now stream (Some self.now) }
+    {
+        match stream {
+            Standard::Input => input_has_task(&self.settings.input, streams),
+            Standard::Output => output_has_task(&self.settings.stdout, streams),
+            Standard::Error => output_has_task(&self.settings.stderr, streams),
+        }
     }
 
     /// Takes over what a line says of the guest. Out of memory leaves it as it was.
@@ -214,6 +226,24 @@ impl Guest {
             OwnCall::Exit { status } => Deed::Tell(Told::Exit(exit_status(*status))),
             OwnCall::ExitCode { code } => Deed::Tell(Told::Exit(*code)),
         }
+    }
+}
+
+fn input_has_task(input: &Input, streams: &Streams) -> bool
+    ensures { result ≡ input_has_task (reads_ahead_in streams.now) input.now }
+{
+    match input {
+        Input::Named(name) => streams.reads_ahead(name.as_bytes()),
+        Input::Shared | Input::Empty | Input::Closed => false,
+    }
+}
+
+fn output_has_task(output: &Output, streams: &Streams) -> bool
+    ensures { result ≡ output_has_task (writes_behind_in streams.now) output.now }
+{
+    match output {
+        Output::Named(name) => streams.writes_behind(name.as_bytes()),
+        Output::Empty | Output::Sink | Output::Closed => false,
     }
 }
 

@@ -3,8 +3,8 @@ ghost use Rattle.wasi_base.specs.Causes.{Rose};
 ghost use Rattle.wasi_stdin.specs.Shared.{given_now};
 ghost use Rattle.wasi_script.specs.Grammar.{reading_after};
 ghost use Rattle.wasi_script.specs.Reads.{Reads};
-ghost use Rattle.wasi_reply.specs.Reply.{reply_line, OnFault};
-ghost use Rattle.wasi_host.specs.Host.{new_host, names_of, IsStep, Fits, reply_to, size_read};
+ghost use Rattle.wasi_reply.specs.Reply.{reply_line};
+ghost use Rattle.wasi_host.specs.Host.{new_host, names_of, IsStep, OnInputFault, Fits, reply_to, size_read};
 ghost use Rattle.wasi_host.specs.Transcript.{outputs_of};
 ghost use Rattle.wasi_reply.specs.Outputs.{output_lines};
 ghost use Rattle.wasi_session.specs.Live.{step_if_any};
@@ -84,7 +84,7 @@ impl Session {
         ensures step { IfOk result (λ reply. IsStep (I.told stdin.old) (I.told stdin.new) self.old.host self.new.host line.now reply) }
         ensures unread { size_read line.now self.old.host ≡ None → stdin.new ≡ stdin.old }
         ensures later { I.faults stdin.old ≤ I.faults stdin.new }
-        ensures fault { IfOk result (λ reply. OnFault reply (Rose (I.faults stdin.old) (I.faults stdin.new))) }
+        ensures fault { IfOk result (λ reply. OnInputFault line.now reply (Rose (I.faults stdin.old) (I.faults stdin.new))) }
         ensures ready { OnOk result ((self.old.refused ≡ false) × (self.new.refused ≡ false)) }
         ensures refused { OnErr result (self.new.refused ≡ true) }
         ensures same { OnErr result ((self.new.host ≡ self.old.host) × (stdin.new ≡ stdin.old)) }
@@ -118,7 +118,7 @@ impl Session {
         ensures step { OnOk result (IsStep (I.told stdin.old) (I.told stdin.new) self.old.host self.new.host line.now (reply_to line.now self.old.host (given_now self.new.host.shared))) }
         ensures unread { size_read line.now self.old.host ≡ None → stdin.new ≡ stdin.old }
         ensures later { I.faults stdin.old ≤ I.faults stdin.new }
-        ensures fault { OnOk result (OnFault (reply_to line.now self.old.host (given_now self.new.host.shared)) (Rose (I.faults stdin.old) (I.faults stdin.new))) }
+        ensures fault { OnOk result (OnInputFault line.now (reply_to line.now self.old.host (given_now self.new.host.shared)) (Rose (I.faults stdin.old) (I.faults stdin.new))) }
         ensures ready { OnOk result ((self.old.refused ≡ false) × (self.new.refused ≡ false)) }
         ensures refused { OnErr result (self.new.refused ≡ true) }
         ensures same { OnErr result (reply.new.items ≡ reply.old.items) }

@@ -1,5 +1,5 @@
 -- Rows of a map by their names: found, and one more.
-use Rattle.std.proofs.Common.{◌≡◌, ℕ, Bool, true, false, cond, List, [], ◌∷◌, ◌++◌, Option, Some, None, refl, ap, sym, ◌∙◌, true≢false}
+use Rattle.std.proofs.Common.{◌≡◌, ℕ, suc, length, Bool, true, false, cond, List, [], ◌∷◌, ◌++◌, Option, Some, None, refl, ap, sym, ◌∙◌, true≢false}
 use Rattle.std.specs.Prelude.{is_some, map, Vec, ◌||◌}
 use Rattle.std.specs.Map.{lookup}
 use Rattle.std.specs.Str.{bytes_eq}
@@ -42,6 +42,14 @@ none_of (Some x) e = absurd (true≢false e)
 
 pub absent_is : {V : Type 0} (name : List ℕ) (rows : List (List ℕ × V)) → is_among name (map (λ row. row.0) rows) ≡ false → lookup (bytes_eq name) rows ≡ None
 absent_is name rows e = none_of (lookup (bytes_eq name) rows) (sym (among_is name rows) ∙ e)
+
+-- the names of a map's rows: which there are, and how many
+pub row_named : {A V : Type 0} (es : List (Vec ℕ A × V)) (name : List ℕ) → is_some (lookup (λ (key : Vec ℕ A). bytes_eq name key.items) es) ≡ is_among name (map (λ row. row.0) (rows_of es))
+row_named es name = ap is_some (sym (rows_lookup name es)) ∙ sym (among_is name (rows_of es))
+
+pub rows_counted : {A V : Type 0} (es : List (Vec ℕ A × V)) → length es ≡ length (map (λ row. row.0) (rows_of es))
+rows_counted [] = refl
+rows_counted (row ∷ es) = ap suc (rows_counted es)
 
 -- what is found once a new name stands last
 last_found : {V : Type 0} (rows : List (List ℕ × V)) (name : List ℕ) (it : V) (other : List ℕ) → lookup (bytes_eq other) (rows ++ (name, it) ∷ []) ≡ cond (is_some (lookup (bytes_eq other) rows)) (lookup (bytes_eq other) rows) (cond (bytes_eq other name) (Some it) None)

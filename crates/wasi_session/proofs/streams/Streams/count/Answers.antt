@@ -1,5 +1,5 @@
 use Rattle.std.proofs.Common.{arith}
-use Rattle.wasi_session.proofs.RowFacts.{rows_counted}
+use Rattle.wasi_script.specs.laws.Rows.{rows_counted}
 use Rattle.wasi_session.proofs.streams.Streams.count.Goals as goal
 
 pub returns : goal.returns

@@ -1,7 +1,7 @@
 use Rattle.std.proofs.Common.{◌∙◌, ap}
 use Rattle.wasi_script.specs.Grammar.{is_among}
 use Rattle.wasi_host.specs.Host.{Streams, names_in}
-use Rattle.wasi_session.proofs.RowFacts.{row_named}
+use Rattle.wasi_script.specs.laws.Rows.{row_named}
 use Rattle.wasi_session.proofs.streams.Streams.has_output.Goals as goal
 
 pub returns : goal.returns
