@@ -3,6 +3,7 @@
 
 ghost use Rattle.wasi_fs.specs.Trees.{IsOf};
 
+mod memory;
 mod refusals;
 
 use crate::{At, Descriptor, MemStore, Store, Tree};

@@ -1,6 +1,8 @@
 //! One small tree, by calls: the root 0 with the directory `a` (1), the file `f` (2) and the link
 //! `l` (3); in `a` the file `g` (4).
 
+mod memory;
+
 use crate::{At, Kind, Nodes, StoreError};
 use std::alloc::Global;
 use std::process::Abort;

@@ -34,62 +34,80 @@ fn memory_of(alloc: Global, bytes: &[u8]) -> Result<GuestMemory, AllocError> {
 
 type Calls<'a> = Unstable<'a, MemSnapshot1>;
 
+/// The least and the greatest numbers that calls take, of 32 and of 64 bits.
+const ENDS: [(u32, u64); 2] = [(0, 0), (u32::MAX, u64::MAX)];
+
 // what calls answer that give nothing, in a few functions: each call's contract is long
 
-fn descriptors(calls: &mut Calls<'_>, memory: &mut GuestMemory) -> [Result<(), Error>; 4] {
+fn descriptors(
+    calls: &mut Calls<'_>,
+    memory: &mut GuestMemory,
+    n: u32,
+    m: u64,
+) -> [Result<(), Error>; 4] {
     [
-        calls.fd_advise(memory, 3, 1, 2, Advice::Willneed),
-        calls.fd_allocate(memory, 3, 1, 2),
-        calls.fd_close(memory, 3),
-        calls.fd_datasync(memory, 3),
+        calls.fd_advise(memory, n, m, m, Advice::Willneed),
+        calls.fd_allocate(memory, n, m, m),
+        calls.fd_close(memory, n),
+        calls.fd_datasync(memory, n),
     ]
 }
 
-fn settings(calls: &mut Calls<'_>, memory: &mut GuestMemory) -> [Result<(), Error>; 4] {
+fn settings(
+    calls: &mut Calls<'_>,
+    memory: &mut GuestMemory,
+    n: u32,
+    m: u64,
+) -> [Result<(), Error>; 4] {
     [
-        calls.fd_fdstat_set_flags(memory, 3, Fdflags::APPEND),
-        calls.fd_fdstat_set_rights(memory, 3, Rights::FD_READ, Rights::FD_SEEK),
-        calls.fd_filestat_set_size(memory, 3, 9),
-        calls.fd_filestat_set_times(memory, 3, 1, 2, Fstflags::ATIM),
+        calls.fd_fdstat_set_flags(memory, n, Fdflags::APPEND),
+        calls.fd_fdstat_set_rights(memory, n, Rights::FD_READ, Rights::FD_SEEK),
+        calls.fd_filestat_set_size(memory, n, m),
+        calls.fd_filestat_set_times(memory, n, m, m, Fstflags::ATIM),
     ]
 }
 
-fn names(calls: &mut Calls<'_>, memory: &mut GuestMemory) -> [Result<(), Error>; 4] {
+fn names(calls: &mut Calls<'_>, memory: &mut GuestMemory, n: u32) -> [Result<(), Error>; 4] {
     [
-        calls.fd_prestat_dir_name(memory, 3, 0, 9),
-        calls.fd_renumber(memory, 3, 4),
-        calls.fd_sync(memory, 3),
-        calls.args_get(memory, 0, 8),
+        calls.fd_prestat_dir_name(memory, n, n, n),
+        calls.fd_renumber(memory, n, n),
+        calls.fd_sync(memory, n),
+        calls.args_get(memory, n, n),
     ]
 }
 
-fn paths(calls: &mut Calls<'_>, memory: &mut GuestMemory) -> [Result<(), Error>; 4] {
-    let path = (0, 4);
+fn paths(
+    calls: &mut Calls<'_>,
+    memory: &mut GuestMemory,
+    n: u32,
+    m: u64,
+) -> [Result<(), Error>; 4] {
+    let path = (n, n);
     let follow = Lookupflags::SYMLINK_FOLLOW;
     [
-        calls.path_create_directory(memory, 3, path),
-        calls.path_filestat_set_times(memory, 3, follow, path, 1, 2, Fstflags::MTIM),
-        calls.path_link(memory, 3, follow, path, 4, path),
-        calls.path_remove_directory(memory, 3, path),
+        calls.path_create_directory(memory, n, path),
+        calls.path_filestat_set_times(memory, n, follow, path, m, m, Fstflags::MTIM),
+        calls.path_link(memory, n, follow, path, n, path),
+        calls.path_remove_directory(memory, n, path),
     ]
 }
 
-fn more_paths(calls: &mut Calls<'_>, memory: &mut GuestMemory) -> [Result<(), Error>; 4] {
-    let path = (0, 4);
+fn more_paths(calls: &mut Calls<'_>, memory: &mut GuestMemory, n: u32) -> [Result<(), Error>; 4] {
+    let path = (n, n);
     [
-        calls.path_rename(memory, 3, path, 4, path),
-        calls.path_symlink(memory, path, 3, path),
-        calls.path_unlink_file(memory, 3, path),
-        calls.environ_get(memory, 0, 8),
+        calls.path_rename(memory, n, path, n, path),
+        calls.path_symlink(memory, path, n, path),
+        calls.path_unlink_file(memory, n, path),
+        calls.environ_get(memory, n, n),
     ]
 }
 
-fn others(calls: &mut Calls<'_>, memory: &mut GuestMemory) -> [Result<(), Error>; 4] {
+fn others(calls: &mut Calls<'_>, memory: &mut GuestMemory, n: u32) -> [Result<(), Error>; 4] {
     [
         calls.proc_raise(memory, Signal::Hup),
         calls.sched_yield(memory),
-        calls.random_get(memory, 0, 8),
-        calls.random_get(memory, 8, 0),
+        calls.random_get(memory, n, 8),
+        calls.random_get(memory, 8, n),
     ]
 }
 
@@ -105,33 +123,46 @@ fn nothing_is(answers: [Result<(), Error>; 4], fits: bool) -> bool {
     all
 }
 
+fn answer_nothing(alloc: Global, fits: bool, n: u32, m: u64) -> Result<bool, AllocError> {
+    let mut replies = Vec::new(alloc);
+    for _ in 0..24 {
+        replies.push(nothing_or_number(fits))?;
+    }
+    let mut snapshot = MemSnapshot1::new(replies);
+    let mut calls = Unstable(&mut snapshot);
+    let mut memory = memory_of(alloc, &[])?;
+    let first = nothing_is(descriptors(&mut calls, &mut memory, n, m), fits)
+        && nothing_is(settings(&mut calls, &mut memory, n, m), fits)
+        && nothing_is(names(&mut calls, &mut memory, n), fits);
+    Ok(
+        first
+            && nothing_is(paths(&mut calls, &mut memory, n, m), fits)
+            && nothing_is(more_paths(&mut calls, &mut memory, n), fits)
+            && nothing_is(others(&mut calls, &mut memory, n), fits),
+    )
+}
+
 #[test]
 fn calls_that_answer_nothing(rt: HostRuntime) -> Result<(), Fail> {
-    for fits in [true, false] {
-        let mut replies = Vec::new(rt.alloc());
-        for _ in 0..24 {
-            replies.push(nothing_or_number(fits))?;
-        }
-        let mut snapshot = MemSnapshot1::new(replies);
-        let mut calls = Unstable(&mut snapshot);
-        let mut memory = memory_of(rt.alloc(), &[])?;
-        assert!(rt; nothing_is(descriptors(&mut calls, &mut memory), fits));
-        assert!(rt; nothing_is(settings(&mut calls, &mut memory), fits));
-        assert!(rt; nothing_is(names(&mut calls, &mut memory), fits));
-        assert!(rt; nothing_is(paths(&mut calls, &mut memory), fits));
-        assert!(rt; nothing_is(more_paths(&mut calls, &mut memory), fits));
-        assert!(rt; nothing_is(others(&mut calls, &mut memory), fits));
+    for (n, m) in ENDS {
+        assert!(rt; answer_nothing(rt.alloc(), true, n, m)?);
+        assert!(rt; answer_nothing(rt.alloc(), false, n, m)?);
     }
     Ok(())
 }
 
-fn reads(calls: &mut Calls<'_>, memory: &mut GuestMemory) -> [Result<u32, Error>; 4] {
-    let path = (0, 4);
+fn reads(
+    calls: &mut Calls<'_>,
+    memory: &mut GuestMemory,
+    n: u32,
+    m: u64,
+) -> [Result<u32, Error>; 4] {
+    let buffers = (n, n);
     [
-        calls.fd_read(memory, 3, path),
-        calls.fd_pread(memory, 3, path, 5),
-        calls.fd_write(memory, 3, path),
-        calls.fd_pwrite(memory, 3, path, 5),
+        calls.fd_read(memory, n, buffers),
+        calls.fd_pread(memory, n, buffers, m),
+        calls.fd_write(memory, n, buffers),
+        calls.fd_pwrite(memory, n, buffers, m),
     ]
 }
 
@@ -139,15 +170,17 @@ fn opens(
     calls: &mut Calls<'_>,
     alloc: Global,
     memory: &mut GuestMemory,
+    n: u32,
+    m: u64,
 ) -> [Result<u32, Error>; 4] {
-    let path = (0, 4);
+    let path = (n, n);
     let follow = Lookupflags::SYMLINK_FOLLOW;
     let rights = Rights::FD_READ;
     [
-        calls.fd_readdir(memory, 3, 0, 8, 1),
+        calls.fd_readdir(memory, n, n, n, m),
         calls.path_open(
             memory,
-            3,
+            n,
             follow,
             path,
             Oflags::CREAT,
@@ -155,17 +188,27 @@ fn opens(
             rights,
             Fdflags::SYNC,
         ),
-        calls.path_readlink(memory, 3, path, 0, 8),
-        calls.poll_oneoff(alloc, memory, 0, 0, 0),
+        calls.path_readlink(memory, n, path, n, n),
+        calls.poll_oneoff(alloc, memory, n, n, 0),
     ]
 }
 
-fn times(calls: &mut Calls<'_>, memory: &mut GuestMemory) -> [Result<u64, Error>; 4] {
+fn times(
+    calls: &mut Calls<'_>,
+    memory: &mut GuestMemory,
+    n: u32,
+    m: u64,
+) -> [Result<u64, Error>; 4] {
     [
         calls.clock_res_get(memory, Clockid::Monotonic),
-        calls.clock_time_get(memory, Clockid::Realtime, 1),
-        calls.fd_seek(memory, 3, -1, Whence::End),
-        calls.fd_tell(memory, 3),
+        calls.clock_time_get(memory, Clockid::Realtime, m),
+        calls.fd_seek(
+            memory,
+            n,
+            if n == 0 { i64::MIN } else { i64::MAX },
+            Whence::End,
+        ),
+        calls.fd_tell(memory, n),
     ]
 }
 
@@ -193,22 +236,35 @@ fn numbers_are(answers: [Result<u64, Error>; 4], fits: bool) -> bool {
     all
 }
 
+fn number_replies(alloc: Global, fits: bool) -> Result<Vec<Reply>, AllocError> {
+    let mut replies = Vec::new(alloc);
+    for i in 0..12 {
+        let reply = if i < 8 {
+            Reply::Number(if fits { 4294967295 } else { 4294967296 })
+        } else {
+            number_or_nothing(fits, 4294967296)
+        };
+        replies.push(reply)?;
+    }
+    Ok(replies)
+}
+
+fn answer_a_number(alloc: Global, fits: bool, n: u32, m: u64) -> Result<bool, AllocError> {
+    let mut snapshot = MemSnapshot1::new(number_replies(alloc, fits)?);
+    let mut calls = Unstable(&mut snapshot);
+    let mut memory = memory_of(alloc, &[])?;
+    Ok(
+        sizes_are(reads(&mut calls, &mut memory, n, m), fits)
+            && sizes_are(opens(&mut calls, alloc, &mut memory, n, m), fits)
+            && numbers_are(times(&mut calls, &mut memory, n, m), fits),
+    )
+}
+
 #[test]
 fn calls_that_answer_a_number(rt: HostRuntime) -> Result<(), Fail> {
-    for fits in [true, false] {
-        let mut replies = Vec::new(rt.alloc());
-        for _ in 0..8 {
-            replies.push(Reply::Number(if fits { 4294967295 } else { 4294967296 }))?;
-        }
-        for _ in 0..4 {
-            replies.push(number_or_nothing(fits, 4294967296))?;
-        }
-        let mut snapshot = MemSnapshot1::new(replies);
-        let mut calls = Unstable(&mut snapshot);
-        let mut memory = memory_of(rt.alloc(), &[])?;
-        assert!(rt; sizes_are(reads(&mut calls, &mut memory), fits));
-        assert!(rt; sizes_are(opens(&mut calls, rt.alloc(), &mut memory), fits));
-        assert!(rt; numbers_are(times(&mut calls, &mut memory), fits));
+    for (n, m) in ENDS {
+        assert!(rt; answer_a_number(rt.alloc(), true, n, m)?);
+        assert!(rt; answer_a_number(rt.alloc(), false, n, m)?);
     }
     Ok(())
 }
@@ -231,7 +287,10 @@ fn calls_that_answer_pairs_and_stats(rt: HostRuntime) -> Result<(), Fail> {
     let mut memory = memory_of(rt.alloc(), &[])?;
     assert!(rt; matches!(calls.args_sizes_get(&mut memory), Ok((1, 2))));
     assert!(rt; matches!(calls.environ_sizes_get(&mut memory), Ok((3, 4))));
-    let answer = calls.fd_fdstat_get(&mut memory, 3).ok().ok_or("no stat")?;
+    let answer = calls
+        .fd_fdstat_get(&mut memory, u32::MAX)
+        .ok()
+        .ok_or("no stat")?;
     assert_eq!(rt; answer.fs_flags.bits(), 0x1f);
     assert_eq!(rt; answer.fs_rights_inheriting, Rights::FD_WRITE);
     Ok(())
@@ -259,17 +318,20 @@ fn calls_that_answer_files(rt: HostRuntime) -> Result<(), Fail> {
     let mut snapshot = MemSnapshot1::new(replies);
     let mut calls = Unstable(&mut snapshot);
     let mut memory = memory_of(rt.alloc(), &[])?;
-    let answer = calls.fd_filestat_get(&mut memory, 3).ok().ok_or("no stat")?;
+    let answer = calls
+        .fd_filestat_get(&mut memory, u32::MAX)
+        .ok()
+        .ok_or("no stat")?;
     assert_eq!(rt; answer.nlink, 4294967295);
     let follow = Lookupflags::SYMLINK_FOLLOW;
-    let answer = calls.path_filestat_get(&mut memory, 3, follow, (0, 4));
+    let answer = calls.path_filestat_get(&mut memory, u32::MAX, follow, (u32::MAX, u32::MAX));
     assert_eq!(rt; answer.ok().ok_or("no stat")?.ctim, 6);
     let Prestat::Dir(dir) = calls
-        .fd_prestat_get(&mut memory, 3)
+        .fd_prestat_get(&mut memory, u32::MAX)
         .ok()
         .ok_or("not given")?;
     assert_eq!(rt; dir.pr_name_len, 7);
-    let answer = calls.proc_exit(&mut memory, 5);
+    let answer = calls.proc_exit(&mut memory, u32::MAX);
     assert!(rt; matches!(answer, Ok(TrapText::NumberOutOfRange)));
     Ok(())
 }
@@ -282,8 +344,8 @@ fn calls_whose_reply_does_not_fit(rt: HostRuntime) -> Result<(), Fail> {
     let mut memory = memory_of(rt.alloc(), &[])?;
     assert!(rt; is_nosys(calls.args_sizes_get(&mut memory)));
     assert!(rt; is_nosys(calls.environ_sizes_get(&mut memory)));
-    assert!(rt; is_nosys(calls.fd_fdstat_get(&mut memory, 3)));
-    assert!(rt; is_nosys(calls.fd_filestat_get(&mut memory, 3)));
+    assert!(rt; is_nosys(calls.fd_fdstat_get(&mut memory, 0)));
+    assert!(rt; is_nosys(calls.fd_filestat_get(&mut memory, 0)));
     Ok(())
 }
 
@@ -294,9 +356,9 @@ fn more_calls_whose_reply_does_not_fit(rt: HostRuntime) -> Result<(), Fail> {
     let mut calls = Unstable(&mut snapshot);
     let mut memory = memory_of(rt.alloc(), &[])?;
     let follow = Lookupflags::SYMLINK_FOLLOW;
-    assert!(rt; is_nosys(calls.path_filestat_get(&mut memory, 3, follow, (0, 4))));
-    assert!(rt; is_nosys(calls.fd_prestat_get(&mut memory, 3)));
-    assert!(rt; is_nosys(calls.proc_exit(&mut memory, 5)));
+    assert!(rt; is_nosys(calls.path_filestat_get(&mut memory, 0, follow, (0, 0))));
+    assert!(rt; is_nosys(calls.fd_prestat_get(&mut memory, 0)));
+    assert!(rt; is_nosys(calls.proc_exit(&mut memory, 0)));
     Ok(())
 }
 
@@ -345,6 +407,15 @@ fn a_poll_whose_events_lie_over_its_slot(rt: HostRuntime) -> Result<(), Fail> {
         255, 5, 0, 0, 0, 0, 0, 0, 0, 0, 0, 0, 0, 0, 0, 0, 0, 0, 0, 0, 0, 0, 0, 0, 0,
     ];
     assert_eq!(rt; memory.bytes(), after.as_slice());
+    Ok(())
+}
+
+#[test]
+fn a_poll_of_65536_slots(rt: HostRuntime) -> Result<(), Fail> {
+    let mut snapshot = MemSnapshot1::new(vec![in rt.alloc(); Reply::Number(65536)]?);
+    let mut memory = GuestMemory::new(vec![in rt.alloc(); 0u8; 3145728]?);
+    let answer = Unstable(&mut snapshot).poll_oneoff(rt.alloc(), &mut memory, 0, 0, 65536);
+    assert!(rt; matches!(answer, Ok(65536)));
     Ok(())
 }
 

@@ -1,5 +1,6 @@
 use super::*;
 use rand_core::Rng;
+use std::alloc::{AllocError, Global};
 use std::test::Fail;
 use wasi_base::TrapText;
 
@@ -210,5 +211,45 @@ fn a_callers_generator(rt: HostRuntime) -> Result<(), Fail> {
     let bytes = sources.get_insecure_random_bytes(rt.alloc(), 3)?;
     assert!(rt; bytes.as_slice() == [0xfe, 0xff, 0x00].as_slice());
     assert_eq!(rt; sources.get_insecure_random_u64(), 0x0201_0000_0000);
+    Ok(())
+}
+
+fn counter(alloc: Global) -> Result<Generator, AllocError> {
+    Ok(Generator::Caller(Box::new(alloc, Counting { next: 0 })?))
+}
+
+/// Whether each call gives as many bytes as a context's limit.
+fn draws_find_memory(alloc: Global, limit: u64, len: u64) -> Result<bool, Fail> {
+    let mut sources = WasiRandomCtx {
+        random: counter(alloc)?,
+        insecure_random: counter(alloc)?,
+        insecure_random_seed: 0,
+        max_size: limit,
+    };
+    let secure = sources.get_random_bytes(alloc, limit)?;
+    let insecure = sources.get_insecure_random_bytes(alloc, limit)?;
+    let cut = sources.p3_get_random_bytes(alloc, len)?;
+    let insecure_cut = sources.p3_get_insecure_random_bytes(alloc, len)?;
+    Ok(
+        secure.as_slice().len() as u64 == limit
+            && insecure.as_slice().len() as u64 == limit
+            && cut.as_slice().len() as u64 == limit
+            && insecure_cut.as_slice().len() as u64 == limit,
+    )
+}
+
+#[test]
+fn draws_of_no_bytes_and_of_many_find_memory(rt: HostRuntime) -> Result<(), Fail> {
+    assert!(rt; draws_find_memory(rt.alloc(), 0, 0)?);
+    assert!(rt; draws_find_memory(rt.alloc(), 1_048_576, u64::MAX)?);
+    Ok(())
+}
+
+#[test]
+fn the_greatest_draw_finds_memory(rt: HostRuntime) -> Result<(), Fail> {
+    let mut sources = WasiRandomCtx::default();
+    sources.random = counter(rt.alloc())?;
+    let bytes = sources.get_random_bytes(rt.alloc(), DEFAULT_MAX_SIZE)?;
+    assert_eq!(rt; bytes.as_slice().len() as u64, DEFAULT_MAX_SIZE);
     Ok(())
 }
