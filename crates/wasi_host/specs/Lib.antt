@@ -11,5 +11,6 @@ pub mod Sound
 pub mod View
 pub mod Transcript
 pub mod Promises
+pub mod Buffers
 pub mod Codes
 pub mod laws

@@ -11,3 +11,4 @@ pub mod Isolation
 pub mod Kept
 pub mod Walk
 pub mod Filled
+pub mod Buffered

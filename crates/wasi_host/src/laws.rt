@@ -1,4 +1,5 @@
 ghost use Rattle.wasi_host.specs.Promises.{HostRuns, CallsStayInReach, InputsArePutBack, OutputsArePutBack, GuestsAreIsolated, EachIsAlone, OutputsKeep, OutputsFill, TranscriptsFixRuns};
+ghost use Rattle.wasi_host.specs.Buffers.{BuffersKeep};
 ghost use Rattle.wasi_host.specs.Sound.{RunsAreSound, RunsKeepRequests, RunsTellOnce};
 
 use wasi_reply::lines_fix_replies;
@@ -48,12 +49,20 @@ pub fn outputs_keep_what_they_took()
     ensures { OutputsKeep }
 {}
 
-/// A law, for whole sessions: an output is empty when it is declared, and then each step adds to it
+/// A law, for whole sessions: an output that does not buffer is empty when it is declared, and then each step adds to it
 /// what its reply says of a write that goes there, and no other step adds any. So in the end it has
 /// every write that was done, whole and in order, and of each that failed a first part; and that is
 /// what the transcript prints of it.
 pub fn outputs_fill_in_order()
     ensures { OutputsFill }
+{}
+
+/// A law, for whole sessions, of an output that buffers: until its sink fails, what that took and
+/// what is buffered are all that it accepted, in order. Once its sink failed, that took a first part
+/// of it; the next call is told the fault, once, and each call after it that the output is closed.
+/// What its sink took is what the transcript prints of it.
+pub fn buffers_keep_what_they_accept()
+    ensures { BuffersKeep }
 {}
 
 /// A law, for every run of the rules on the shared input: bytes are held exactly in the mode that
