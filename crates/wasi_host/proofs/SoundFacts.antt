@@ -34,7 +34,7 @@ use Rattle.wasi_reply.specs.declared.reply.Reply.{Reply}
 use Rattle.wasi_reply.specs.declared.reply.Reply.TheVariants as reply
 use Rattle.wasi_reply.specs.Reply.{ends}
 use Rattle.wasi_host.specs.Run.{Standing, Reader, Polled, Pollable, Sharing, at_number, at_start, without_guest, with_standing, without_standing, held_count, after_row, read_row, poll_row, fault_to_read, ReadRule, SkipRule, counted, is_over, PollRule, after_ready_row, ReadyRule, wait_row, WaitedRule, BlockRule, Tells, MakeRule, is_full, EntryRule, DropRule, OpenRule, opened_standing, CallRule, live_after, left_by, EndedRule, size_captured, CaptureRule, delivery_answer, delivered_row, DeliverRule, WorkerRule, setting_row, is_shared, Rule, IsRun}
-use Rattle.wasi_host.specs.Sound.{HoldsCount, IsWaitIn, WaitsIn, SoundIn, IsSoundRun, RunsAreSound, IsNoDelivery, HaveNoDelivery, RunsKeepRequests, faults_in, entry_faults, call_faults, step_faults, faults_told, delivered_fault, faults_delivered, RunsTellOnce}
+use Rattle.wasi_host.specs.Sound.{HoldsCount, IsWaitIn, WaitsIn, SoundIn, IsSoundRun, RunsAreSound, IsNoDelivery, HaveNoDelivery, RunsKeepRequests, faults_in, entry_faults, call_faults, step_faults, faults_told, fault_worked, delivered_fault, faults_delivered, RunsTellOnce}
 
 -- ---- families of values by a number
 put_all : {A : Type 0} (P : A → Type 0) (b : Bool) (x y : A) → P x → P y → P (cond b x y)
@@ -262,6 +262,7 @@ step_sound input s (line.Guest g it) answer s' sound h = subst IsSoundRun (sym h
 step_sound input s (line.Configure g it) answer s' sound h = subst IsSoundRun (sym h.1) (setting_sound it g s sound)
 step_sound input s (line.Call g c) answer s' sound h = ended_sound (s.ended g) c input s g answer s' sound h
 step_sound input s (line.Worker it) answer s' sound h = worker_sound it s h.0 s' sound h.2
+step_sound input s (line.Turn it) answer s' sound h = subst IsSoundRun (sym h) sound
 step_sound input s other answer s' sound h = subst IsSoundRun (sym h.1) sound
 
 run_sound : (input : List ℕ) (s : Sharing) (steps : List Line) (answers : List Reply) (bytes : List ℕ) (s' : Sharing) → IsSoundRun s → IsRun input s steps answers bytes s' → IsSoundRun s'
@@ -370,6 +371,7 @@ step_asks input s (line.Configure g it) answer s' size n held e none h = subst (
 step_asks input s (line.Call g c) answer s' size n held e none h = ended_asks (s.ended g) c input s g n answer s' e h
 step_asks input s (line.Worker turn.Capture) answer s' size n held e none h = capture_asks s.mode s.captured size s n h.0 s' held e h.2
 step_asks input s (line.Worker turn.Deliver) answer s' size n held e none h = absurd none
+step_asks input s (line.Turn it) answer s' size n held e none h = subst (Asks s n) (sym h) (asks_still s n e)
 step_asks input s other answer s' size n held e none h = subst (Asks s n) (sym h.1) (asks_still s n e)
 
 run_asks : (input : List ℕ) (s : Sharing) (size n : ℕ) (steps : List Line) (answers : List Reply) (bytes : List ℕ) (s' : Sharing) → s.captured ≡ Some size → s.mode ≡ Asked n → HaveNoDelivery steps → IsRun input s steps answers bytes s' → Asks s n s'
@@ -505,20 +507,20 @@ ended_tallies : (ended : Bool) (c : Call) (input : List ℕ) (s : Sharing) (g : 
 ended_tallies true c input s g answer s' h = silent s s' s h.1 refl
 ended_tallies false c input s g answer s' h = rw h.3 (omega (arith, call_tallies c input s g answer h.1 h.2, left_untold c g answer h.1))
 
-capture_tallies : (size : Option ℕ) (s : Sharing) (answer : Worked) (s' : Sharing) → CaptureRule size s answer s' → Tallies 0 (delivered_fault (reply.Worked answer)) s s'
+capture_tallies : (size : Option ℕ) (s : Sharing) (answer : Worked) (s' : Sharing) → CaptureRule size s answer s' → Tallies 0 (fault_worked (reply.Worked answer)) s s'
 capture_tallies None s answer s' h = rw h.1 (omega arith)
 capture_tallies (Some size) s answer s' h = rw h.1 (omega arith)
 
-given_tallies : (g : Given) (now : Told) (s : Sharing) → untold (delivered_row g now s).mode ≡ delivered_fault (reply.Worked (delivery_answer g))
+given_tallies : (g : Given) (now : Told) (s : Sharing) → untold (delivered_row g now s).mode ≡ fault_worked (reply.Worked (delivery_answer g))
 given_tallies (given.Bytes bytes) now s = refl
 given_tallies given.End now s = refl
 given_tallies (given.Fault kind) now s = refl
 
-deliver_tallies : (c : Option ℕ) (s : Sharing) (answer : Worked) (s' : Sharing) → DeliverRule c s answer s' → Tallies 0 (delivered_fault (reply.Worked answer)) s s'
+deliver_tallies : (c : Option ℕ) (s : Sharing) (answer : Worked) (s' : Sharing) → DeliverRule c s answer s' → Tallies 0 (fault_worked (reply.Worked answer)) s s'
 deliver_tallies None s answer s' h = rw h.1 (omega arith)
 deliver_tallies (Some size) s answer s' h = rw h.0 (rw h.1 (omega (arith, given_tallies (gives s.told size) (told_after s.told size) s)))
 
-worker_tallies : (it : WorkerTurn) (s : Sharing) (answer : Worked) (s' : Sharing) → WorkerRule it s answer s' → Tallies 0 (delivered_fault (reply.Worked answer)) s s'
+worker_tallies : (it : WorkerTurn) (s : Sharing) (answer : Worked) (s' : Sharing) → WorkerRule it s answer s' → Tallies 0 (fault_worked (reply.Worked answer)) s s'
 worker_tallies turn.Capture s answer s' h = capture_tallies (size_captured s.mode s.captured) s answer s' h
 worker_tallies turn.Deliver s answer s' h = deliver_tallies s.captured s answer s' h
 
@@ -526,17 +528,15 @@ setting_untold : (it : Setting) (g : ℕ) (s : Sharing) → untold (setting_row 
 setting_untold (setting.Capacity capacity) g s = refl
 setting_untold other g s = refl
 
-more_delivered : (told n : ℕ) (s s' : Sharing) → Tallies told 0 s s' → Tallies told n s s'
-more_delivered told n s s' h = omega (arith, h)
-
-step_tallies : (input : List ℕ) (s : Sharing) (step : Line) (answer : Reply) (s' : Sharing) → Rule input s step answer s' → Tallies (step_faults s step answer) (delivered_fault answer) s s'
-step_tallies input s (line.Guest g it) answer s' h = more_delivered 0 (delivered_fault answer) s s' (silent s s' (record s { shares = at_number s.shares g (is_shared it) }) h.1 refl)
-step_tallies input s (line.Configure g it) answer s' h = more_delivered 0 (delivered_fault answer) s s' (silent s s' (setting_row it g s) h.1 (setting_untold it g s))
-step_tallies input s (line.Call g c) answer s' h = more_delivered (call_faults (s.ended g) c s g answer) (delivered_fault answer) s s' (ended_tallies (s.ended g) c input s g answer s' h)
+step_tallies : (input : List ℕ) (s : Sharing) (step : Line) (answer : Reply) (s' : Sharing) → Rule input s step answer s' → Tallies (step_faults s step answer) (delivered_fault step answer) s s'
+step_tallies input s (line.Guest g it) answer s' h = silent s s' (record s { shares = at_number s.shares g (is_shared it) }) h.1 refl
+step_tallies input s (line.Configure g it) answer s' h = silent s s' (setting_row it g s) h.1 (setting_untold it g s)
+step_tallies input s (line.Call g c) answer s' h = ended_tallies (s.ended g) c input s g answer s' h
 step_tallies input s (line.Worker it) answer s' h = rw h.1 (worker_tallies it s h.0 s' h.2)
-step_tallies input s other answer s' h = more_delivered 0 (delivered_fault answer) s s' (silent s s' s h.1 refl)
+step_tallies input s (line.Turn it) answer s' h = silent s s' s h refl
+step_tallies input s other answer s' h = silent s s' s h.1 refl
 
-run_tallies : (input : List ℕ) (s : Sharing) (steps : List Line) (answers : List Reply) (bytes : List ℕ) (s' : Sharing) (run : IsRun input s steps answers bytes s') → faults_told input s steps answers bytes s' run ≤ untold s.mode + faults_delivered answers
+run_tallies : (input : List ℕ) (s : Sharing) (steps : List Line) (answers : List Reply) (bytes : List ℕ) (s' : Sharing) (run : IsRun input s steps answers bytes s') → faults_told input s steps answers bytes s' run ≤ untold s.mode + faults_delivered steps answers
 run_tallies input s [] [] bytes s' run = omega arith
 run_tallies input s (step ∷ steps) (answer ∷ answers) bytes s' run = omega (arith, step_tallies input s step answer run.mid run.rule, run_tallies input run.mid steps answers run.more s' run.rest)
 run_tallies input s [] (answer ∷ answers) bytes s' run = absurd run

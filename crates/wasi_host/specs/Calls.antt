@@ -1,6 +1,6 @@
 -- What each call asks to be done, and what it leaves of what its entry is on: a rule of its own for each kind of entry.
 -- A rule sees no more than what its entry is on, and none gives back its guest's settings.
-use Rattle.std.specs.Prelude.{ℕ, true, Some, None, Result, Ok, Err}
+use Rattle.std.specs.Prelude.{ℕ, Some, None, Result, Ok, Err}
 use Rattle.wasi_base.specs.declared.polled.Polled.{Polled as Poll}
 use Rattle.wasi_base.specs.declared.polled.Polled.TheVariants as polled
 use Rattle.wasi_base.specs.declared.stream_error.StreamError.{StreamError}
@@ -35,8 +35,8 @@ use Rattle.wasi_host.specs.declared.deed.Deed.TheVariants.{Tell, Make, Change}
 use Rattle.wasi_host.specs.Deeds.{Own}
 pub use Rattle.wasi_host.specs.declared.settings.Settings.{Settings}
 pub use Rattle.wasi_host.specs.declared.owner.Owner.{Owner}
-use Rattle.wasi_host.specs.InStreams.{input_read, input_skip, input_poll_read, after_input_read}
-use Rattle.wasi_host.specs.OutStreams.{output_check_write, output_write, after_output_write, output_flush, after_output_flush, output_poll_write, after_output_poll_write, output_poll_flush}
+use Rattle.wasi_host.specs.InStreams.{input_read, input_skip, after_input_read, input_poll_read, after_input_poll_read, input_is_ready}
+use Rattle.wasi_host.specs.OutStreams.{output_check_write, after_output_check_write, output_write, after_output_write, output_flush, after_output_flush, output_poll_write, after_output_poll_write, output_poll_flush, after_output_poll_flush, output_is_ready}
 
 -- what is to be done, and what is left of what the entry is on
 pub record Doing (S : Type 0) : Type 0 where
@@ -108,26 +108,26 @@ asked call.Ready at (Pollable wait) s = doing (Tell (told.Truth (is_ready s))) (
 asked call.Block at (Pollable wait) s = doing (Change at.number (entry.Shared (Pollable (wait_after_block s wait))) (told.Truth (block_of s wait))) (after_block s wait)
 asked other at it s = doing mistaken s
 
--- ---- calls on an input, whose pollables are always ready
+-- ---- calls on an input
 abbrev pub called : EntryCall → Owner → StreamEntry → InStream → Doing InStream
 called (call.Read size) at on.Plain s = doing (Tell (result_told told.Bytes (input_read s size))) (after_input_read s size)
 called (call.Skip size) at on.Plain s = doing (Tell (result_told told.Count (input_skip s size))) (after_input_read s size)
 called call.Subscribe at on.Plain s = doing (Make (entry.Stream standard.Input on.Pollable) (Some at.number)) s
-called (call.PollRead room) at on.Polled s = doing (Tell (poll_told told.Bytes (input_poll_read s room))) (after_input_read s room)
-called call.Ready at on.Pollable s = doing (Tell (told.Truth true)) s
-called call.Block at on.Pollable s = doing (Tell (told.Truth true)) s
+called (call.PollRead room) at on.Polled s = doing (Tell (poll_told told.Bytes (input_poll_read s room))) (after_input_poll_read s room)
+called call.Ready at on.Pollable s = doing (Tell (told.Truth (input_is_ready s))) s
+called call.Block at on.Pollable s = doing (Tell (told.Truth (input_is_ready s))) s
 called other at it s = doing mistaken s
 
--- ---- calls on an output, whose pollables are always ready
+-- ---- calls on an output
 abbrev pub sent : EntryCall → Standard → Owner → StreamEntry → OutStream → Doing OutStream
-sent call.CheckWrite to at on.Plain s = doing (Tell (result_told told.Count (output_check_write s))) s
+sent call.CheckWrite to at on.Plain s = doing (Tell (result_told told.Count (output_check_write s))) (after_output_check_write s)
 sent (call.Write bytes) to at on.Plain s = doing (Tell (result_told is_done (output_write s bytes))) (after_output_write s bytes)
 sent call.Flush to at on.Plain s = doing (Tell (result_told is_done (output_flush s))) (after_output_flush s)
 sent call.Subscribe to at on.Plain s = doing (Make (entry.Stream to on.Pollable) (Some at.number)) s
 sent (call.PollWrite bytes) to at on.Polled s = doing (Tell (poll_told told.Count (output_poll_write s bytes))) (after_output_poll_write s bytes)
-sent call.PollFlush to at on.Polled s = doing (Tell (poll_told is_done (output_poll_flush s))) (after_output_flush s)
-sent call.Ready to at on.Pollable s = doing (Tell (told.Truth true)) s
-sent call.Block to at on.Pollable s = doing (Tell (told.Truth true)) s
+sent call.PollFlush to at on.Polled s = doing (Tell (poll_told is_done (output_poll_flush s))) (after_output_poll_flush s)
+sent call.Ready to at on.Pollable s = doing (Tell (told.Truth (output_is_ready s))) s
+sent call.Block to at on.Pollable s = doing (Tell (told.Truth (output_is_ready s))) s
 sent other to at it s = doing mistaken s
 
 -- ---- calls on what a guest owns alone

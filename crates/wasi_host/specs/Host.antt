@@ -9,6 +9,8 @@ use Rattle.wasi_base.specs.declared.sink.SinkPlan.{SinkPlan}
 use Rattle.wasi_base.specs.declared.trap_text.TrapText.TheVariants.{ResourceNotPresent}
 use Rattle.wasi_table.specs.Table.{new_table}
 use Rattle.wasi_streams.specs.Outputs.{Outlet}
+use Rattle.wasi_streams.specs.Reader.{new_reader}
+use Rattle.wasi_streams.specs.Writer.{new_writer}
 use Rattle.wasi_stdin.specs.declared.mode.Mode.TheVariants as mode
 use Rattle.wasi_stdin.specs.Shared.{Shared, capture_of, after_capture, delivered, given_now, outcome_of}
 use Rattle.wasi_stdin.specs.declared.answer.Outcome.{Outcome}
@@ -31,15 +33,17 @@ use Rattle.wasi_script.specs.declared.lines.Call.{Call}
 use Rattle.wasi_script.specs.declared.lines.Call.TheVariants as call
 use Rattle.wasi_script.specs.declared.lines.WorkerTurn.{WorkerTurn}
 use Rattle.wasi_script.specs.declared.lines.WorkerTurn.TheVariants as turn
+use Rattle.wasi_script.specs.declared.lines.StreamTask.{StreamTask}
+use Rattle.wasi_script.specs.declared.lines.StreamTask.TheVariants as task
 use Rattle.wasi_script.specs.declared.lines.Line.{Line}
 use Rattle.wasi_script.specs.declared.lines.Line.TheVariants as line
-use Rattle.wasi_script.specs.Grammar.{Names, may_stand}
+use Rattle.wasi_script.specs.Grammar.{Names, input_has_task, output_has_task, may_stand}
 use Rattle.wasi_reply.specs.declared.reply.Told.TheVariants as told
 use Rattle.wasi_reply.specs.declared.reply.Worked.{Worked}
 use Rattle.wasi_reply.specs.declared.reply.Worked.TheVariants as worked
 use Rattle.wasi_reply.specs.declared.reply.Reply.{Reply}
 use Rattle.wasi_reply.specs.declared.reply.Reply.TheVariants as reply
-use Rattle.wasi_reply.specs.Reply.{ends}
+use Rattle.wasi_reply.specs.Reply.{ends, OnFault}
 use Rattle.wasi_host.specs.declared.entry.Entry.{Entry}
 use Rattle.wasi_host.specs.declared.entry.Entry.TheVariants as entry
 use Rattle.wasi_host.specs.declared.entry.SharedEntry.{SharedEntry}
@@ -51,6 +55,7 @@ use Rattle.wasi_host.specs.declared.stream.OutStream.TheVariants as out_stream
 use Rattle.wasi_host.specs.declared.deed.Deed.{Deed}
 use Rattle.wasi_host.specs.declared.deed.Deed.TheVariants.{Make}
 use Rattle.wasi_host.specs.Deeds.{Own, Done, trapped, entry_at, act, dropped, apart}
+use Rattle.wasi_host.specs.Tasks.{Turned, input_turned, output_turned}
 use Rattle.wasi_host.specs.Calls.{Settings, Owner, Doing, opened, asked, called, sent, owned}
 
 -- a guest: what configuration lines say of it, what it owns, and whether it was called and whether it ended
@@ -134,16 +139,18 @@ left_guest guest reply own = record { settings = guest.settings; own = left_own 
 abbrev pub settled : Guest → Done → Shared → Streams → Answered
 settled guest done shared streams = record { reply = done.reply; guest = left_guest guest done.reply done.own; shared = shared; streams = streams }
 
--- The rules of calls, by what their entry is on. What a call reaches, and how a deed is done, is the host's matter,
--- whatever its rules are.
+-- The rules of calls, by what their entry is on, and those of the turns of tasks. What a call or a turn reaches, and how
+-- a deed is done, is the host's matter, whatever its rules are.
 pub record Rules : Type 0 where
   pub asked : EntryCall → Owner → SharedEntry → Shared → Doing Shared
   pub called : EntryCall → Owner → StreamEntry → InStream → Doing InStream
   pub sent : EntryCall → Standard → Owner → StreamEntry → OutStream → Doing OutStream
   pub owned : OwnCall → Settings → Own → Deed
+  pub read_ahead : InStream → Turned InStream
+  pub written_behind : OutStream → Turned OutStream
 
 abbrev pub the_rules : Rules
-the_rules = record { asked = asked; called = called; sent = sent; owned = owned }
+the_rules = record { asked = asked; called = called; sent = sent; owned = owned; read_ahead = input_turned; written_behind = output_turned }
 
 -- a call on an entry of the shared input, on one of the guest's input, and on one of its outputs
 abbrev pub on_shared : Doing Shared → Guest → Streams → Answered
@@ -200,11 +207,13 @@ new_outlet room plan = record { taken = []; limits = record { room = room; plan 
 abbrev pub new_input : InputDeclaration → InStream
 new_input (declared_in.Pipe bytes) = in_stream.Pipe bytes
 new_input (declared_in.File bytes plan) = in_stream.File (record { left = bytes; plan = plan })
+new_input (declared_in.Async bytes plan) = in_stream.Async (new_reader (record { left = bytes; plan = plan }))
 
 abbrev pub new_output : OutputDeclaration → OutStream
 new_output (declared_out.Pipe capacity) = out_stream.Pipe (record { contents = []; room = capacity })
 new_output (declared_out.File room plan) = out_stream.File (new_outlet room plan)
 new_output (declared_out.Stdio room plan) = out_stream.Stdio (new_outlet room plan)
+new_output (declared_out.Buffered room plan budget) = out_stream.Buffered (new_writer budget (new_outlet room plan))
 
 abbrev pub with_input : List ℕ → InStream → Host → Host
 with_input name it host = record { shared = host.shared; guests = host.guests; streams = record { inputs = host.streams.inputs ++ (name, it) ∷ []; outputs = host.streams.outputs } }
@@ -241,10 +250,20 @@ abbrev pub after_turn : WorkerTurn → Shared → Given → Shared
 after_turn turn.Capture shared given = after_capture shared
 after_turn turn.Deliver shared given = after_delivery shared.captured shared given
 
+-- ---- a turn of the task of a stream, by its name
+abbrev pub task_told : Rules → StreamTask → Streams → Worked
+task_told rules (task.Reader name) streams = (rules.read_ahead (input_at (input.Named name) streams)).told
+task_told rules (task.Writer name) streams = (rules.written_behind (output_at (output.Named name) streams)).told
+
+abbrev pub after_task : Rules → StreamTask → Streams → Streams
+after_task rules (task.Reader name) streams = put_input (input.Named name) (rules.read_ahead (input_at (input.Named name) streams)).left streams
+after_task rules (task.Writer name) streams = put_output (output.Named name) (rules.written_behind (output_at (output.Named name) streams)).left streams
+
 -- ---- the reply to a step, and the host after it; a delivery gives `given`
 abbrev pub reply_by : Rules → Line → Host → Given → Reply
 reply_by rules (line.Call g it) host given = (answer rules it g host).reply
 reply_by rules (line.Worker it) host given = reply.Worked (turn_told it host.shared given)
+reply_by rules (line.Turn it) host given = reply.Worked (task_told rules it host.streams)
 reply_by rules other host given = reply.Told told.Ok
 
 abbrev pub host_by : Rules → Line → Host → Given → Host
@@ -254,6 +273,7 @@ host_by rules (line.Guest g input) host given = with_guest g (Some (new_guest in
 host_by rules (line.Configure g it) host given = with_guest g (option_map (configured it) (guest_of host g)) host
 host_by rules (line.Call g it) host given = called_in rules it g host
 host_by rules (line.Worker it) host given = record { shared = after_turn it host.shared given; guests = host.guests; streams = host.streams }
+host_by rules (line.Turn it) host given = record { shared = host.shared; guests = host.guests; streams = after_task rules it host.streams }
 
 abbrev pub reply_to : Line → Host → Given → Reply
 reply_to = reply_by the_rules
@@ -271,6 +291,11 @@ pub record IsStep (before after : Option Told) (old new : Host) (step : Line) (a
   pub reply_is : answer ≡ reply_to step old (given_now new.shared)
   pub host_is : new ≡ host_after step old (given_now new.shared)
   pub told_is : MatchOption (size_read step old) (after ≡ before) (λ size. Gives before size (given_now new.shared) after)
+
+-- a delivery that tells a fault of the shared input; a turn of a task tells one of its own stream
+abbrev pub OnInputFault : Line → Reply → Type 0 → Type 0
+OnInputFault (line.Worker it) answer P = OnFault answer P
+OnInputFault other answer P = Unit {0}
 
 -- over a source that tells, a step is a function
 abbrev pub given_for : Option ℕ → Told → Given
@@ -311,12 +336,36 @@ was_called_in (Some guest) = guest.was_called
 abbrev pub names_in : {A : Type 0} → Named A → List (List ℕ)
 names_in named = map (λ row. row.0) named
 
+-- which streams have a task
+abbrev pub is_reader : Option InStream → Bool
+is_reader (Some (in_stream.Async reader)) = true
+is_reader other = false
+
+abbrev pub is_writer : Option OutStream → Bool
+is_writer (Some (out_stream.Buffered writer)) = true
+is_writer other = false
+
+abbrev pub reads_ahead_in : Streams → List ℕ → Bool
+reads_ahead_in streams name = is_reader (lookup (bytes_eq name) streams.inputs)
+
+abbrev pub writes_behind_in : Streams → List ℕ → Bool
+writes_behind_in streams name = is_writer (lookup (bytes_eq name) streams.outputs)
+
+abbrev pub task_of : Streams → Standard → Option Guest → Bool
+task_of streams stream None = false
+task_of streams standard.Input (Some guest) = input_has_task (reads_ahead_in streams) guest.settings.input
+task_of streams standard.Output (Some guest) = output_has_task (writes_behind_in streams) guest.settings.stdout
+task_of streams standard.Error (Some guest) = output_has_task (writes_behind_in streams) guest.settings.stderr
+
 abbrev pub names_of : Host → Names
 names_of host = record {
   is_guest = λ g. is_some (guest_of host g);
   was_called = λ g. was_called_in (guest_of host g);
+  has_task = λ stream g. task_of host.streams stream (guest_of host g);
   inputs = names_in host.streams.inputs;
   outputs = names_in host.streams.outputs;
+  reads_ahead = reads_ahead_in host.streams;
+  writes_behind = writes_behind_in host.streams;
 }
 
 -- a step may stand after what the host holds

@@ -1,30 +1,45 @@
 -- What inputs answer that are not the shared one: the declared ones, and one at its end.
-use Rattle.std.specs.Prelude.{ℕ, List, [], Result, Err}
+use Rattle.std.specs.Prelude.{ℕ, Bool, true, List, [], Result, Err}
 use Rattle.wasi_base.specs.declared.polled.Polled.{Polled}
-use Rattle.wasi_base.specs.declared.polled.Polled.TheVariants.{Ready}
+use Rattle.wasi_base.specs.declared.polled.Polled.TheVariants.{Ready, Pending}
 use Rattle.wasi_base.specs.declared.stream_error.StreamError.{StreamError}
 use Rattle.wasi_base.specs.declared.stream_error.StreamError.TheVariants as error
 use Rattle.wasi_streams.specs.Answers.{skipped}
 use Rattle.wasi_streams.specs.MemoryPipes.{pipe_read, after_pipe_read, pipe_poll_read}
 use Rattle.wasi_streams.specs.Files.{file_read, after_file_read, file_poll_read}
+use Rattle.wasi_streams.specs.Reader.{reader_read, after_reader_read, reader_is_ready}
 use Rattle.wasi_host.specs.declared.stream.InStream.{InStream}
-use Rattle.wasi_host.specs.declared.stream.InStream.TheVariants.{Closed, Pipe, File}
+use Rattle.wasi_host.specs.declared.stream.InStream.TheVariants.{Closed, Pipe, File, Async}
 
 abbrev pub input_read : InStream → ℕ → Result (List ℕ) StreamError
 input_read (Pipe left) size = pipe_read left size
 input_read (File told) size = file_read told size
+input_read (Async reader) size = reader_read reader size
 input_read Closed size = Err error.Closed
 
 abbrev pub input_skip : InStream → ℕ → Result ℕ StreamError
 input_skip stream size = skipped (input_read stream size)
 
+-- no script polls a stream that has a task
 abbrev pub input_poll_read : InStream → ℕ → Polled (List ℕ)
 input_poll_read (Pipe left) room = pipe_poll_read left room
 input_poll_read (File told) room = file_poll_read told room
+input_poll_read (Async reader) room = Pending
 input_poll_read Closed room = Ready []
 
--- what a read, a skip or a polled read leaves
+-- what a read or a skip leaves
 abbrev pub after_input_read : InStream → ℕ → InStream
 after_input_read (Pipe left) size = Pipe (after_pipe_read left size)
 after_input_read (File told) size = File (after_file_read told size)
+after_input_read (Async reader) size = Async (after_reader_read reader size)
 after_input_read Closed size = Closed
+
+-- .. and a polled read
+abbrev pub after_input_poll_read : InStream → ℕ → InStream
+after_input_poll_read (Async reader) room = Async reader
+after_input_poll_read other room = after_input_read other room
+
+-- a pollable of it is ready, where no task reads ahead always
+abbrev pub input_is_ready : InStream → Bool
+input_is_ready (Async reader) = reader_is_ready reader
+input_is_ready other = true

@@ -2,6 +2,8 @@ pub mod Entry
 pub mod Deeds
 pub mod InStreams
 pub mod OutStreams
+pub mod Sources
+pub mod Tasks
 pub mod Calls
 pub mod Host
 pub mod Run

@@ -114,24 +114,28 @@ TookBy (on.Write bytes) at.Plain answer before after = (it : Told) × (answer �
 TookBy (on.PollWrite bytes) at.Polled answer before after = (it : Told) × (answer ≡ reply.Told it) × Took it bytes before after
 TookBy other entry answer before after = after ≡ before
 
--- the outputs that lines declare
-abbrev pub is_declared : OutStream → Bool
-is_declared out_stream.Closed = false
-is_declared out_stream.Sink = false
-is_declared other = true
+-- the declared outputs whose writes go straight out: all but those that buffer
+abbrev pub is_direct : OutStream → Bool
+is_direct (out_stream.Pipe pipe) = true
+is_direct (out_stream.File out) = true
+is_direct (out_stream.Stdio out) = true
+is_direct other = false
 
--- whatever is called on a declared output stays one, and took what its reply says
+-- whatever is called on such an output, it stays one, and took what its reply says
 pub record Keeps (it : EntryCall) (entry : StreamEntry) (stream left : OutStream) (answer : Reply) : Type 0 where
-  pub declared : is_declared left ≡ true
+  pub direct : is_direct left ≡ true
   pub took : TookBy it entry answer (taken_of stream) (taken_of left)
 
 abbrev pub OutputsKeep : Type 0
-OutputsKeep = (it : EntryCall) (to : Standard) (owner : Owner) (entry : StreamEntry) (stream : OutStream) (own : Own) → is_declared stream ≡ true → let done = sent it to owner entry stream in Keeps it entry stream done.left (act (apart done.deed) own).reply
+OutputsKeep = (it : EntryCall) (to : Standard) (owner : Owner) (entry : StreamEntry) (stream : OutStream) (own : Own) → is_direct stream ≡ true → let done = sent it to owner entry stream in Keeps it entry stream done.left (act (apart done.deed) own).reply
 
 -- ---- outputs over a whole run
--- what the output of a name took so far, once it is declared
+-- what such an output of a name took so far, once it is declared
+abbrev pub direct_taken : OutStream → Option (List ℕ)
+direct_taken stream = cond (is_direct stream) (Some (taken_of stream)) None
+
 abbrev pub taken_at : List ℕ → Host → Option (List ℕ)
-taken_at name host = option_map taken_of (lookup (bytes_eq name) host.streams.outputs)
+taken_at name host = option_and_then direct_taken (lookup (bytes_eq name) host.streams.outputs)
 
 -- the call that a step makes on the output of a name, if it makes one, and through what entry
 abbrev pub entry_call_on : List ℕ → EntryCall → Option Entry → Settings → Option (EntryCall × StreamEntry)
@@ -165,7 +169,7 @@ FillsAll name (step ∷ steps) host told = Fills (step_call_on name step host) (
 -- .. and that is what the transcript's line of it prints
 pub record OutputFills (name : List ℕ) (steps : List Line) (told : Told') : Type 0 where
   pub fills : FillsAll name steps new_host told
-  pub printed : lookup (bytes_eq name) (outputs_of (host_end steps new_host told).streams) ≡ taken_at name (host_end steps new_host told)
+  pub printed : (taken : List ℕ) → taken_at name (host_end steps new_host told) ≡ Some taken → lookup (bytes_eq name) (outputs_of (host_end steps new_host told).streams) ≡ Some taken
 
 abbrev pub OutputsFill : Type 0
 OutputsFill = (name : List ℕ) (steps : List Line) (told : Told') → OutputFills name steps told

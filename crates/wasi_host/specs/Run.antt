@@ -164,7 +164,8 @@ abbrev pub BlockRule : Option ℕ → Sharing → ℕ → ℕ → ℕ → Answer
 BlockRule None s g n parent answer s' = (answer ≡ told.Truth (ready_row s.mode)) × (s' ≡ with_standing (after_ready_row s.mode s) g n (Pollable parent (wait_row s.mode s)))
 BlockRule (Some since) s g n parent answer s' = WaitedRule (nat_lt since s.deliveries) s g n parent answer s'
 
--- a call that is not on the shared input changes nothing of it; its reply is told by the host
+-- a call that is not on the shared input changes nothing of it, and so does a turn of a stream's task; the host tells its
+-- reply
 abbrev pub OtherRule : Sharing → Sharing → Type 0
 OtherRule s s' = s' ≡ s
 
@@ -301,6 +302,7 @@ Rule input s (line.Guest g it) answer s' = (answer ≡ reply.Told told.Ok) × (s
 Rule input s (line.Configure g it) answer s' = (answer ≡ reply.Told told.Ok) × (s' ≡ setting_row it g s)
 Rule input s (line.Call g c) answer s' = EndedRule (s.ended g) c input s g answer s'
 Rule input s (line.Worker it) answer s' = (worked : Worked) × (answer ≡ reply.Worked worked) × WorkerRule it s worked s'
+Rule input s (line.Turn it) answer s' = OtherRule s s'
 Rule input s other answer s' = (answer ≡ reply.Told told.Ok) × (s' ≡ s)
 
 -- the bytes of the shared input that a step hands out or skips, by its reply

@@ -100,16 +100,20 @@ faults_told input s (step ∷ steps) (answer ∷ answers) bytes after run = step
 faults_told input s steps answers bytes after run = 0
 
 -- how many the worker delivers
-abbrev pub delivered_fault : Reply → ℕ
-delivered_fault (reply.Worked (worked.Fault kind)) = 1
-delivered_fault other = 0
+abbrev pub fault_worked : Reply → ℕ
+fault_worked (reply.Worked (worked.Fault kind)) = 1
+fault_worked other = 0
 
-abbrev pub faults_delivered : List Reply → ℕ
-faults_delivered [] = 0
-faults_delivered (answer ∷ answers) = delivered_fault answer + faults_delivered answers
+abbrev pub delivered_fault : Line → Reply → ℕ
+delivered_fault (line.Worker it) answer = fault_worked answer
+delivered_fault other answer = 0
+
+abbrev pub faults_delivered : List Line → List Reply → ℕ
+faults_delivered (step ∷ steps) (answer ∷ answers) = delivered_fault step answer + faults_delivered steps answers
+faults_delivered steps answers = 0
 
 -- each is told at most once
 abbrev pub RunsTellOnce : Type 0
 RunsTellOnce =
     (told : Told) (steps : List Line) (answers : List Reply) (bytes : List ℕ) (after : Sharing) (run : IsRun told.left (at_start told) steps answers bytes after) →
-    faults_told told.left (at_start told) steps answers bytes after run ≤ faults_delivered answers
+    faults_told told.left (at_start told) steps answers bytes after run ≤ faults_delivered steps answers

@@ -9,6 +9,8 @@ use Rattle.wasi_script.specs.declared.lines.Output.{Output}
 use Rattle.wasi_script.specs.declared.lines.Output.TheVariants as output
 use Rattle.wasi_script.specs.declared.lines.Setting.{Setting}
 use Rattle.wasi_script.specs.declared.lines.Setting.TheVariants as setting
+use Rattle.wasi_script.specs.declared.lines.StreamTask.{StreamTask}
+use Rattle.wasi_script.specs.declared.lines.StreamTask.TheVariants as task
 use Rattle.wasi_script.specs.declared.lines.Line.{Line}
 use Rattle.wasi_script.specs.declared.lines.Line.TheVariants as line
 use Rattle.wasi_reply.specs.declared.reply.Reply.{Reply}
@@ -45,7 +47,12 @@ is_guest g k = nat_eq k g
 abbrev pub is_other : ℕ → ℕ → Bool
 is_other g k = not (nat_eq k g)
 
--- ---- what a guest sees: the lines that declare its names, and those that configure or call it, in order
+-- ---- what a guest sees: the lines that declare its names, the turns of their tasks, and the lines that configure or call
+-- it, in order
+abbrev pub is_task_of : (List ℕ → Bool) → StreamTask → Bool
+is_task_of mine (task.Reader name) = mine name
+is_task_of mine (task.Writer name) = mine name
+
 abbrev pub is_seen : (List ℕ → Bool) → ℕ → Line → Bool
 is_seen mine g (line.Input name it) = mine name
 is_seen mine g (line.Output name it) = mine name
@@ -53,6 +60,7 @@ is_seen mine g (line.Guest k it) = is_guest g k
 is_seen mine g (line.Configure k it) = is_guest g k
 is_seen mine g (line.Call k it) = is_guest g k
 is_seen mine g (line.Worker it) = false
+is_seen mine g (line.Turn it) = is_task_of mine it
 
 abbrev pub view : ℕ → List Line → List Line
 view g steps = filter (is_seen (names_by (is_guest g) steps) g) steps

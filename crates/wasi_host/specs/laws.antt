@@ -3,9 +3,11 @@ pub mod Shown
 pub mod SharedCalls
 pub mod GuestCalls
 pub mod Deliveries
+pub mod Tasks
 pub mod Steps
 pub mod Headline
 pub mod Reach
 pub mod Isolation
 pub mod Kept
+pub mod Walk
 pub mod Filled

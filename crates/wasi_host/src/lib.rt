@@ -9,6 +9,7 @@ mod outlet;
 mod owner;
 mod settings;
 mod stream;
+mod tasks;
 
 pub use deed::Deed;
 pub use entry::{Entry, SharedEntry, StreamEntry};
@@ -20,3 +21,4 @@ pub use outlet::{FileOutput, ProcessOutput};
 pub use owner::Owner;
 pub use settings::Settings;
 pub use stream::{FileInput, InStream, OutStream};
+pub use tasks::{AsyncInput, BufferedOutput};

@@ -4,6 +4,7 @@ ghost use Rattle.wasi_streams.specs.Files.{file_read, after_file_read, file_skip
 ghost use Rattle.wasi_host.specs.OutStreams.{taken_of};
 
 use crate::outlet::{FileOutput, ProcessOutput};
+use crate::tasks::{AsyncInput, BufferedOutput};
 use bytes::Bytes;
 use std::alloc::Global;
 use std::marker::Model;
@@ -64,6 +65,8 @@ pub enum InStream {
     Pipe(MemoryInputPipe),
     /// `infile`: a source with a plan.
     File(FileInput),
+    /// `asyncin`: a source with a plan, which a task reads ahead.
+    Async(AsyncInput),
 }
 
 /// What guests write to.
@@ -79,10 +82,12 @@ pub enum OutStream {
     File(FileOutput),
     /// `stdio`: a sink with a plan, as an output of the host's process.
     Stdio(ProcessOutput),
+    /// `buffered`: a sink with a plan, to which a task hands what is buffered.
+    Buffered(BufferedOutput),
 }
 
 impl OutStream {
-    /// All bytes that it took, in order.
+    /// All bytes that it took, or its sink, in order.
     pub fn taken(&self) -> &[u8]
         ensures { result.now ≡ taken_of self.now }
     {
@@ -90,6 +95,7 @@ impl OutStream {
             OutStream::Pipe(pipe) => pipe.contents(),
             OutStream::File(file) => file.taken(),
             OutStream::Stdio(output) => output.taken(),
+            OutStream::Buffered(output) => output.taken(),
             OutStream::Closed | OutStream::Sink => &[],
         }
     }

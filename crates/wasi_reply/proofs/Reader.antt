@@ -75,6 +75,8 @@ rows =
     ∷ alone (codes "idle") (reply.Worked worked.Idle)
     ∷ number (codes "gave") (λ count. reply.Worked (worked.Gave count))
     ∷ alone (codes "end") (reply.Worked worked.End)
+    ∷ number (codes "took") (λ count. reply.Worked (worked.Took count))
+    ∷ alone (codes "flushed") (reply.Worked worked.Flushed)
     ∷ kind (codes "fault") (λ kind. reply.Worked (worked.Fault kind))
     ∷ []
 
@@ -100,6 +102,7 @@ told_back _ = record { forms = refl; last = refl; reply = refl }
 
 worked_back : (it : Worked) → ReadsBack (reply.Worked it)
 worked_back worked.Idle = record { forms = refl; last = refl; reply = refl }
+worked_back worked.Flushed = record { forms = refl; last = refl; reply = refl }
 worked_back _ = record { forms = refl; last = refl; reply = refl }
 
 pub reads_back : (it : Reply) → ReadsBack it

@@ -28,6 +28,8 @@ worked_fields (worked.Captured size) = (codes "captured", Field.Number size ∷ 
 worked_fields worked.Idle = (codes "idle", [])
 worked_fields (worked.Gave count) = (codes "gave", Field.Number count ∷ [])
 worked_fields worked.End = (codes "end", [])
+worked_fields (worked.Took count) = (codes "took", Field.Number count ∷ [])
+worked_fields worked.Flushed = (codes "flushed", [])
 worked_fields (worked.Fault kind) = (codes "fault", Field.Kind kind ∷ [])
 
 abbrev pub fields_of : Reply → List ℕ × List Field
@@ -60,7 +62,7 @@ abbrev pub ends : Reply → Bool
 ends (reply.Told it) = told_ends it
 ends other = false
 
--- a reply that tells a fault of the input
+-- a worker's reply that tells a fault of the input
 abbrev pub OnFault : Reply → Type 0 → Type 0
 OnFault (reply.Worked (worked.Fault kind)) P = P
 OnFault other P = Unit {0}

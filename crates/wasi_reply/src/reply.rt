@@ -26,18 +26,22 @@ pub enum Told {
     Exit(u8),
 }
 
-/// What the worker tells of its turn.
+/// What the worker tells of its turn, and a stream's task of its own.
 #[derive(Clone, Copy, Debug, PartialEq, Eq, Drop)]
 pub enum Worked {
     /// The size that it captured, in bytes.
     Captured(usize),
     /// There was nothing to do.
     Idle,
-    /// A delivery of so many bytes.
+    /// A delivery of so many bytes, or a read ahead of them.
     Gave(usize),
-    /// A delivery of the input's end.
+    /// A delivery of the input's end, or a read ahead that met it.
     End,
-    /// A delivery of a fault.
+    /// So many of the bytes that an output buffers went to its sink.
+    Took(usize),
+    /// The sink of an output that buffers was flushed.
+    Flushed,
+    /// A delivery of a fault, or a fault that a task met.
     Fault(IoKind),
 }
 

@@ -50,12 +50,14 @@ fn the_worker_replies(rt: HostRuntime) -> Result<(), Fail> {
         Reply::Worked(Worked::Idle),
         Reply::Worked(Worked::Gave(0)),
         Reply::Worked(Worked::End),
+        Reply::Worked(Worked::Took(1024)),
+        Reply::Worked(Worked::Flushed),
         Reply::Worked(Worked::Fault(IoKind::IsADirectory)),
     ];
     let text = text_of(alloc, &replies)?;
     assert_eq!(rt;
         text.as_slice(),
-        b"captured 65536\nidle\ngave 0\nend\nfault isadirectory\n".as_slice()
+        b"captured 65536\nidle\ngave 0\nend\ntook 1024\nflushed\nfault isadirectory\n".as_slice()
     );
     Ok(())
 }

@@ -115,6 +115,8 @@ fn push_worked(text: &mut Vec<u8>, worked: &Worked) -> Result<(), OutOfMemory>
         Worked::Idle => push_word(text, b"idle"),
         Worked::Gave(count) => push_number(text, b"gave", *count as u64),
         Worked::End => push_word(text, b"end"),
+        Worked::Took(count) => push_number(text, b"took", *count as u64),
+        Worked::Flushed => push_word(text, b"flushed"),
         Worked::Fault(kind) => push_kind(text, b"fault", *kind),
     }
 }

@@ -38,6 +38,10 @@ room_of = number_below 1048577
 abbrev pub count_of : List ℕ → Option ℕ
 count_of = positive_below 1048577
 
+-- the budget of an output that buffers, from 1 to 1048576 bytes
+abbrev pub budget_of : List ℕ → Option ℕ
+budget_of = positive_below 1048577
+
 abbrev pub exit_code_of : List ℕ → Option ℕ
 exit_code_of = number_below 256
 

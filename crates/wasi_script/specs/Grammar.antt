@@ -3,19 +3,24 @@ use Rattle.std.specs.Prelude.{◌≡◌, ℕ, ◌+◌, Bool, true, false, cond, 
 use Rattle.std.specs.List.{list_any, slice_split}
 use Rattle.std.specs.Option.{option_map}
 use Rattle.std.specs.Str.{bytes_eq}
-use Rattle.wasi_script.specs.Fields.{words_of, guest_of, number_of, capacity_of, room_of, exit_code_of, is_at_end, with_first, with_last, two_fields}
+use Rattle.wasi_script.specs.Fields.{words_of, guest_of, number_of, capacity_of, room_of, budget_of, exit_code_of, is_at_end, with_first, with_last, two_fields}
 use Rattle.wasi_script.specs.Name.{name_of}
 use Rattle.wasi_script.specs.Bytes.{byte_string_of, declared_bytes_of}
 use Rattle.wasi_script.specs.Plans.{read_plan_of, write_plan_of}
+use Rattle.wasi_base.specs.declared.source.Plan.{Plan}
 use Rattle.wasi_base.specs.declared.sink.SinkPlan.{SinkPlan}
 use Rattle.wasi_script.specs.declared.lines.Line.{Line}
 use Rattle.wasi_script.specs.declared.lines.Line.TheVariants as line
+use Rattle.wasi_script.specs.declared.lines.InputDeclaration.{InputDeclaration}
 use Rattle.wasi_script.specs.declared.lines.InputDeclaration.TheVariants as input_declaration
 use Rattle.wasi_script.specs.declared.lines.OutputDeclaration.{OutputDeclaration}
 use Rattle.wasi_script.specs.declared.lines.OutputDeclaration.TheVariants as output_declaration
 use Rattle.wasi_script.specs.declared.lines.Setting.{Setting}
 use Rattle.wasi_script.specs.declared.lines.Setting.TheVariants as setting
 use Rattle.wasi_script.specs.declared.lines.WorkerTurn.TheVariants as turn
+use Rattle.wasi_script.specs.declared.lines.StreamTask.{StreamTask}
+use Rattle.wasi_script.specs.declared.lines.StreamTask.TheVariants as task
+use Rattle.wasi_script.specs.declared.lines.Standard.{Standard}
 use Rattle.wasi_script.specs.declared.lines.Standard.TheVariants as standard
 use Rattle.wasi_script.specs.declared.lines.Access.TheVariants as access
 use Rattle.wasi_script.specs.declared.lines.EntryCall.{EntryCall}
@@ -108,8 +113,12 @@ call_of = meaning_by (open_calls ++ (entry_calls ++ other_calls))
 abbrev pub pipe_of : List (List ℕ) → Option Line
 pipe_of = with_first name_of (λ name. with_last declared_bytes_of (λ bytes. line.Input name (input_declaration.Pipe bytes)))
 
-abbrev pub in_file_of : List (List ℕ) → Option Line
-in_file_of = with_first name_of (λ name. with_first declared_bytes_of (λ bytes. with_last read_plan_of (λ plan. line.Input name (input_declaration.File bytes plan))))
+-- a source's name, bytes and plan
+abbrev pub source_fields : List (List ℕ) → Option (List ℕ × List ℕ × List Plan)
+source_fields = with_first name_of (λ name. with_first declared_bytes_of (λ bytes. with_last read_plan_of (λ plan. (name, bytes, plan))))
+
+abbrev pub source_of : (List ℕ → List Plan → InputDeclaration) → List (List ℕ) → Option Line
+source_of make fields = option_map (λ it. line.Input it.0 (make it.1 it.2)) (source_fields fields)
 
 abbrev pub out_pipe_of : List (List ℕ) → Option Line
 out_pipe_of = with_first name_of (λ name. with_last room_of (λ capacity. line.Output name (output_declaration.Pipe capacity)))
@@ -121,6 +130,9 @@ sink_fields = with_first name_of (λ name. with_first room_of (λ room. with_las
 abbrev pub sink_of : (ℕ → List SinkPlan → OutputDeclaration) → List (List ℕ) → Option Line
 sink_of make fields = option_map (λ it. line.Output it.0 (make it.1 it.2)) (sink_fields fields)
 
+abbrev pub buffered_of : List (List ℕ) → Option Line
+buffered_of = with_first name_of (λ name. with_first room_of (λ room. with_first write_plan_of (λ plan. with_last budget_of (λ budget. line.Output name (output_declaration.Buffered room plan budget)))))
+
 abbrev pub guest_line_of : List (List ℕ) → Option Line
 guest_line_of = with_first guest_of (λ guest. with_last input_of (line.Guest guest))
 
@@ -131,14 +143,26 @@ setting_of field it fields = option_map (λ both. line.Configure both.0 (it both
 abbrev pub call_line_of : List (List ℕ) → Option Line
 call_line_of = with_first guest_of (λ guest fields. option_map (line.Call guest) (call_of fields))
 
+-- `in` or `out`, and a name
+abbrev pub stream_tasks : List (Form StreamTask)
+stream_tasks =
+    (codes "in", with_last name_of task.Reader)
+    ∷ (codes "out", with_last name_of task.Writer)
+    ∷ []
+
+abbrev pub turn_of : List (List ℕ) → Option Line
+turn_of fields = option_map line.Turn (meaning_by stream_tasks fields)
+
 -- the steps that declare streams, and the others
 abbrev pub stream_lines : List (Form Line)
 stream_lines =
     (codes "pipe", pipe_of)
-    ∷ (codes "infile", in_file_of)
+    ∷ (codes "infile", source_of input_declaration.File)
+    ∷ (codes "asyncin", source_of input_declaration.Async)
     ∷ (codes "outpipe", out_pipe_of)
     ∷ (codes "outfile", sink_of output_declaration.File)
     ∷ (codes "stdio", sink_of output_declaration.Stdio)
+    ∷ (codes "buffered", buffered_of)
     ∷ []
 
 abbrev pub other_lines : List (Form Line)
@@ -150,6 +174,7 @@ other_lines =
     ∷ (codes "call", call_line_of)
     ∷ (codes "capture", without_fields (line.Worker turn.Capture))
     ∷ (codes "deliver", without_fields (line.Worker turn.Deliver))
+    ∷ (codes "turn", turn_of)
     ∷ []
 
 abbrev pub line_of : List (List ℕ) → Option Line
@@ -164,15 +189,27 @@ abbrev pub reading_of : List ℕ → Reading
 reading_of [] = Note
 reading_of (byte ∷ bytes) = cond (nat_eq byte 35) Note (step_or_invalid (line_of (words_of (byte ∷ bytes))))
 
--- what the lines so far declared, the streams' names in order, and which guests they let call
+-- What the lines so far declared: the guests, which of them were called, and which of their standard streams have a
+-- task; the streams' names in order, and at which of them a task reads ahead or writes behind.
 pub record Names : Type 0 where
   pub is_guest : ℕ → Bool
   pub was_called : ℕ → Bool
+  pub has_task : Standard → ℕ → Bool
   pub inputs : List (List ℕ)
   pub outputs : List (List ℕ)
+  pub reads_ahead : List ℕ → Bool
+  pub writes_behind : List ℕ → Bool
 
 abbrev pub no_names : Names
-no_names = record { is_guest = λ number. false; was_called = λ number. false; inputs = []; outputs = [] }
+no_names = record {
+  is_guest = λ number. false;
+  was_called = λ number. false;
+  has_task = λ stream number. false;
+  inputs = [];
+  outputs = [];
+  reads_ahead = λ name. false;
+  writes_behind = λ name. false;
+}
 
 -- a name among others
 abbrev pub is_among : List ℕ → List (List ℕ) → Bool
@@ -197,6 +234,21 @@ setting_stands names (setting.Stdout it) = output_stands names it
 setting_stands names (setting.Stderr it) = output_stands names it
 setting_stands names (setting.Capacity capacity) = nat_le 1 capacity && nat_le capacity 65536
 
+-- a buffered output's budget is one byte at least
+abbrev pub budget_stands : OutputDeclaration → Bool
+budget_stands (output_declaration.Buffered room plan budget) = nat_le 1 budget
+budget_stands other = true
+
+-- no guest polls a stream that has a task
+abbrev pub call_stands : Names → ℕ → Call → Bool
+call_stands names guest (call.Open stream access.Polled) = not (names.has_task stream guest)
+call_stands names guest other = true
+
+-- a turn is one of a task that there is
+abbrev pub turn_stands : Names → StreamTask → Bool
+turn_stands names (task.Reader name) = names.reads_ahead name
+turn_stands names (task.Writer name) = names.writes_behind name
+
 -- lines say more of a guest before its first call
 abbrev pub may_set_up : Names → ℕ → Bool
 may_set_up names guest = names.is_guest guest && not (names.was_called guest)
@@ -204,22 +256,62 @@ may_set_up names guest = names.is_guest guest && not (names.was_called guest)
 -- a step may stand after these lines
 abbrev pub may_stand : Names → Line → Bool
 may_stand names (line.Input name it) = may_declare names name
-may_stand names (line.Output name it) = may_declare names name
+may_stand names (line.Output name it) = may_declare names name && budget_stands it
 may_stand names (line.Guest guest it) = nat_lt guest 64 && (not (names.is_guest guest) && input_stands names it)
 may_stand names (line.Configure guest it) = may_set_up names guest && setting_stands names it
-may_stand names (line.Call guest it) = names.is_guest guest
+may_stand names (line.Call guest it) = names.is_guest guest && call_stands names guest it
 may_stand names (line.Worker it) = true
+may_stand names (line.Turn it) = turn_stands names it
+
+-- which streams have a task
+abbrev pub is_read_ahead : InputDeclaration → Bool
+is_read_ahead (input_declaration.Async bytes plan) = true
+is_read_ahead other = false
+
+abbrev pub is_written_behind : OutputDeclaration → Bool
+is_written_behind (output_declaration.Buffered room plan budget) = true
+is_written_behind other = false
+
+abbrev pub input_has_task : (List ℕ → Bool) → Input → Bool
+input_has_task reads_ahead (input.Named name) = reads_ahead name
+input_has_task reads_ahead other = false
+
+abbrev pub output_has_task : (List ℕ → Bool) → Output → Bool
+output_has_task writes_behind (output.Named name) = writes_behind name
+output_has_task writes_behind other = false
+
+-- this is known of a guest, and of a name
+abbrev pub known : ℕ → Bool → (ℕ → Bool) → ℕ → Bool
+known guest it test number = cond (nat_eq number guest) it (test number)
 
 abbrev pub also : ℕ → (ℕ → Bool) → ℕ → Bool
-also guest test number = cond (nat_eq number guest) true (test number)
+also guest = known guest true
+
+abbrev pub named : List ℕ → Bool → (List ℕ → Bool) → List ℕ → Bool
+named name it test other = cond (bytes_eq other name) it (test other)
+
+abbrev pub same_stream : Standard → Standard → Bool
+same_stream standard.Input standard.Input = true
+same_stream standard.Output standard.Output = true
+same_stream standard.Error standard.Error = true
+same_stream one other = false
+
+abbrev pub with_task : Standard → ℕ → Bool → (Standard → ℕ → Bool) → Standard → ℕ → Bool
+with_task stream guest it tasks other = cond (same_stream other stream) (known guest it (tasks other)) (tasks other)
+
+abbrev pub tasks_after : Names → ℕ → Setting → Standard → ℕ → Bool
+tasks_after names guest (setting.Stdout it) = with_task standard.Output guest (output_has_task names.writes_behind it) names.has_task
+tasks_after names guest (setting.Stderr it) = with_task standard.Error guest (output_has_task names.writes_behind it) names.has_task
+tasks_after names guest (setting.Capacity capacity) = names.has_task
 
 abbrev pub names_after : Names → Line → Names
-names_after names (line.Input name it) = record names { inputs = names.inputs ++ name ∷ [] }
-names_after names (line.Output name it) = record names { outputs = names.outputs ++ name ∷ [] }
-names_after names (line.Guest guest it) = record names { is_guest = also guest names.is_guest }
-names_after names (line.Configure guest it) = names
+names_after names (line.Input name it) = record names { inputs = names.inputs ++ name ∷ []; reads_ahead = named name (is_read_ahead it) names.reads_ahead }
+names_after names (line.Output name it) = record names { outputs = names.outputs ++ name ∷ []; writes_behind = named name (is_written_behind it) names.writes_behind }
+names_after names (line.Guest guest it) = record names { is_guest = also guest names.is_guest; has_task = with_task standard.Input guest (input_has_task names.reads_ahead it) names.has_task }
+names_after names (line.Configure guest it) = record names { has_task = tasks_after names guest it }
 names_after names (line.Call guest it) = record names { was_called = also guest names.was_called }
 names_after names (line.Worker it) = names
+names_after names (line.Turn it) = names
 
 -- .. and after all of some steps
 abbrev pub names_end : Names → List Line → Names

@@ -1,3 +1,4 @@
 -- What holds of every valid script.
 pub mod Distinct
+pub mod Rows
 pub mod Standing

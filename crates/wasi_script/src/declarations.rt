@@ -1,19 +1,226 @@
-ghost use Rattle.std.specs.Prelude.{◌≡◌, true, OnOk, OnErr};
-ghost use Rattle.wasi_script.specs.Grammar.{may_stand, may_declare, may_set_up, input_stands, output_stands, setting_stands, names_after, no_names};
+ghost use Rattle.std.specs.Prelude.{◌≡◌, ◌+◌, ◌<◌, length, slice_index_or, true, false, OnOk, OnErr};
+ghost use Rattle.wasi_script.specs.Grammar.{Names, may_stand, may_declare, budget_stands, may_set_up, input_stands, output_stands, setting_stands, call_stands, turn_stands, is_read_ahead, is_written_behind, input_has_task, output_has_task, tasks_after, names_after, no_names, is_among};
+ghost use Rattle.wasi_script.specs.declared.lines.Line.TheVariants as line;
 
-use crate::lines::{Input, Line, Output, Setting};
+use crate::lines::{
+    Access, Call, Input, InputDeclaration, Line, Output, OutputDeclaration, Setting, Standard,
+    StreamTask,
+};
 use crate::name::Name;
 use crate::name_set::NameSet;
 use std::alloc::Global;
 use wasi_base::OutOfMemory;
 
-/// What the lines so far declared: guests, inputs and outputs; and which of the guests have called.
+/// Something that knows which guests, inputs and outputs there are, and which guests have called:
+/// what a parser took down of the lines so far, or a session that did them.
+pub trait Declared {
+    /// The names of what was declared.
+    ghost names: { Self → Names };
+
+    /// How many inputs and outputs there are together.
+    fn stream_count(&self) -> usize
+        ensures { result ≡ length (names self.now).inputs + length (names self.now).outputs };
+
+    /// Whether there is an input of this name.
+    fn has_input(&self, name: &[u8]) -> bool
+        ensures { result ≡ is_among name.now (names self.now).inputs };
+
+    /// Whether there is an output of this name.
+    fn has_output(&self, name: &[u8]) -> bool
+        ensures { result ≡ is_among name.now (names self.now).outputs };
+
+    /// Whether there is a guest of this number.
+    fn has_guest(&self, guest: u32) -> bool
+        ensures { result ≡ (names self.now).is_guest guest };
+
+    /// Whether the guest of this number has called.
+    fn was_called(&self, guest: u32) -> bool
+        ensures { result ≡ (names self.now).was_called guest };
+
+    /// Whether this standard stream of the guest of this number has a task.
+    fn has_task(&self, stream: Standard, guest: u32) -> bool
+        ensures { result ≡ (names self.now).has_task stream guest };
+
+    /// Whether there is an input of this name that a task reads ahead.
+    fn reads_ahead(&self, name: &[u8]) -> bool
+        ensures { result ≡ (names self.now).reads_ahead name.now };
+
+    /// Whether there is an output of this name that buffers what it accepts for a task.
+    fn writes_behind(&self, name: &[u8]) -> bool
+        ensures { result ≡ (names self.now).writes_behind name.now };
+
+    /// Whether a line may stand after what was declared.
+    final fn allow(&self, line: &Line) -> bool
+        ensures { result ≡ may_stand (names self.now) line.now }
+    {
+        match line {
+            Line::Input { name, input: _ } => self.allow_name(name),
+            Line::Output { name, output } => self.allow_name(name) && has_budget(output),
+            Line::Guest { guest, input } => {
+                *guest < 64 && (!self.has_guest(*guest) && self.allow_input(input))
+            }
+            Line::Configure { guest, setting } => {
+                self.allow_set_up(*guest) && self.allow_setting(setting)
+            }
+            Line::Call { guest, call } => self.has_guest(*guest) && self.allow_call(*guest, call),
+            Line::Worker(_) => true,
+            Line::Turn(task) => self.allow_turn(task),
+        }
+    }
+
+    /// Whether a stream may be declared under a name.
+    final fn allow_name(&self, name: &Name) -> bool
+        ensures { result ≡ may_declare (names self.now) name.now }
+    {
+        let name = name.as_bytes();
+        self.stream_count() < 64 && (!self.has_input(name) && !self.has_output(name))
+    }
+
+    /// Whether lines may say more of a guest.
+    final fn allow_set_up(&self, guest: u32) -> bool
+        ensures { result ≡ may_set_up (names self.now) guest }
+    {
+        self.has_guest(guest) && !self.was_called(guest)
+    }
+
+    /// Whether they may say this of it.
+    final fn allow_setting(&self, setting: &Setting) -> bool
+        ensures { result ≡ setting_stands (names self.now) setting.now }
+    {
+        match setting {
+            Setting::Stdout(output) | Setting::Stderr(output) => self.allow_output(output),
+            Setting::Capacity(capacity) => 1 <= *capacity && *capacity <= 65536,
+        }
+    }
+
+    /// Whether a guest may have this input.
+    final fn allow_input(&self, input: &Input) -> bool
+        ensures { result ≡ input_stands (names self.now) input.now }
+    {
+        match input {
+            Input::Shared | Input::Empty | Input::Closed => true,
+            Input::Named(name) => self.has_input(name.as_bytes()),
+        }
+    }
+
+    /// Whether a guest may have this output.
+    final fn allow_output(&self, output: &Output) -> bool
+        ensures { result ≡ output_stands (names self.now) output.now }
+    {
+        match output {
+            Output::Empty | Output::Sink | Output::Closed => true,
+            Output::Named(name) => self.has_output(name.as_bytes()),
+        }
+    }
+
+    /// Whether a guest may call this: it polls no stream that has a task.
+    final fn allow_call(&self, guest: u32, call: &Call) -> bool
+        ensures { result ≡ call_stands (names self.now) guest call.now }
+    {
+        match call {
+            Call::Open {
+                stream,
+                access: Access::Polled,
+            } => !self.has_task(*stream, guest),
+            Call::Open { .. } | Call::On { .. } | Call::Drop { .. } | Call::Own(_) => true,
+        }
+    }
+
+    /// Whether this task may have its turn.
+    final fn allow_turn(&self, task: &StreamTask) -> bool
+        ensures { result ≡ turn_stands (names self.now) task.now }
+    {
+        match task {
+            StreamTask::Reader(name) => self.reads_ahead(name.as_bytes()),
+            StreamTask::Writer(name) => self.writes_behind(name.as_bytes()),
+        }
+    }
+}
+
+// a buffered output's budget is one byte at least
+fn has_budget(output: &OutputDeclaration) -> bool
+    ensures { result ≡ budget_stands output.now }
+{
+    match output {
+        OutputDeclaration::Buffered { budget, .. } => 1 <= *budget,
+        OutputDeclaration::Pipe { .. }
+        | OutputDeclaration::File { .. }
+        | OutputDeclaration::Stdio { .. } => true,
+    }
+}
+
+fn is_read_ahead(input: &InputDeclaration) -> bool
+    ensures { result ≡ is_read_ahead input.now }
+{
+    matches!(input, InputDeclaration::Async { .. })
+}
+
+fn is_written_behind(output: &OutputDeclaration) -> bool
+    ensures { result ≡ is_written_behind output.now }
+{
+    matches!(output, OutputDeclaration::Buffered { .. })
+}
+
+// a guest's flag
+fn has_flag(flags: &[bool; 64], guest: u32) -> bool
+    ensures { result ≡ slice_index_or flags.now guest false }
+{
+    guest < 64 && flags[guest as usize]
+}
+
+/// What the lines so far declared: guests, inputs and outputs; which of the guests have called, and
+/// which of their standard streams have a task.
 #[derive(Drop)]
 pub struct Declarations {
     declared: [bool; 64],
     called: [bool; 64],
+    input_tasks: [bool; 64],
+    output_tasks: [bool; 64],
+    error_tasks: [bool; 64],
     inputs: NameSet,
     outputs: NameSet,
+}
+
+impl Declared for Declarations {
+    ghost use Rattle.wasi_script.specs.Declarations.{names_in};
+
+    ghost names = { names_in };
+
+    fn stream_count(&self) -> usize {
+        self.inputs.len() + self.outputs.len()
+    }
+
+    fn has_input(&self, name: &[u8]) -> bool {
+        self.inputs.contains(name)
+    }
+
+    fn has_output(&self, name: &[u8]) -> bool {
+        self.outputs.contains(name)
+    }
+
+    fn has_guest(&self, guest: u32) -> bool {
+        has_flag(&self.declared, guest)
+    }
+
+    fn was_called(&self, guest: u32) -> bool {
+        has_flag(&self.called, guest)
+    }
+
+    fn has_task(&self, stream: Standard, guest: u32) -> bool {
+        match stream {
+            Standard::Input => has_flag(&self.input_tasks, guest),
+            Standard::Output => has_flag(&self.output_tasks, guest),
+            Standard::Error => has_flag(&self.error_tasks, guest),
+        }
+    }
+
+    fn reads_ahead(&self, name: &[u8]) -> bool {
+        self.inputs.has_task(name)
+    }
+
+    fn writes_behind(&self, name: &[u8]) -> bool {
+        self.outputs.has_task(name)
+    }
 }
 
 impl Declarations {
@@ -25,71 +232,57 @@ impl Declarations {
         Declarations {
             declared: [false; 64],
             called: [false; 64],
+            input_tasks: [false; 64],
+            output_tasks: [false; 64],
+            error_tasks: [false; 64],
             inputs: NameSet::none(alloc),
             outputs: NameSet::none(alloc),
         }
     }
 
-    /// Whether a line may stand after the lines so far.
-    pub fn allow(&self, line: &Line) -> bool
-        ensures { result ≡ may_stand (names_in self.now) line.now }
-    {
-        match line {
-            Line::Input { name, .. } | Line::Output { name, .. } => self.allow_name(name),
-            Line::Guest { guest, input } => {
-                *guest < 64 && (!self.declared[*guest as usize] && self.allow_input(input))
-            }
-            Line::Configure { guest, setting } => {
-                self.allow_set_up(*guest) && self.allow_setting(setting)
-            }
-            Line::Call { guest, call: _ } => *guest < 64 && self.declared[*guest as usize],
-            Line::Worker(_) => true,
-        }
-    }
-
-    // Whether a stream may be declared under a name.
-    fn allow_name(&self, name: &Name) -> bool
-        ensures { result ≡ may_declare (names_in self.now) name.now }
-    {
-        let name = name.as_bytes();
-        self.inputs.len() + self.outputs.len() < 64
-            && (!self.inputs.contains(name) && !self.outputs.contains(name))
-    }
-
-    // Whether lines may say more of a guest.
-    fn allow_set_up(&self, guest: u32) -> bool
-        ensures { result ≡ may_set_up (names_in self.now) guest }
-    {
-        guest < 64 && (self.declared[guest as usize] && !self.called[guest as usize])
-    }
-
-    // Whether they may say this of it.
-    fn allow_setting(&self, setting: &Setting) -> bool
-        ensures { result ≡ setting_stands (names_in self.now) setting.now }
-    {
-        match setting {
-            Setting::Stdout(output) | Setting::Stderr(output) => self.allow_output(output),
-            Setting::Capacity(capacity) => 1 <= *capacity && *capacity <= 65536,
-        }
-    }
-
-    // Whether a guest may have this input.
-    fn allow_input(&self, input: &Input) -> bool
-        ensures { result ≡ input_stands (names_in self.now) input.now }
+    // whether a guest's input has a task
+    fn input_has_task(&self, input: &Input) -> bool
+        ensures { result ≡ input_has_task (names_in self.now).reads_ahead input.now }
     {
         match input {
-            Input::Shared | Input::Empty | Input::Closed => true,
-            Input::Named(name) => self.inputs.contains(name.as_bytes()),
+            Input::Shared | Input::Empty | Input::Closed => false,
+            Input::Named(name) => self.inputs.has_task(name.as_bytes()),
         }
     }
 
-    // Whether a guest may have this output.
-    fn allow_output(&self, output: &Output) -> bool
-        ensures { result ≡ output_stands (names_in self.now) output.now }
+    // .. and an output of it
+    fn output_has_task(&self, output: &Output) -> bool
+        ensures { result ≡ output_has_task (names_in self.now).writes_behind output.now }
     {
         match output {
-            Output::Empty | Output::Sink | Output::Closed => true,
-            Output::Named(name) => self.outputs.contains(name.as_bytes()),
+            Output::Empty | Output::Sink | Output::Closed => false,
+            Output::Named(name) => self.outputs.has_task(name.as_bytes()),
+        }
+    }
+
+    fn declare_guest(&mut self, guest: u32, input: &Input)
+        requires { guest < 64 }
+        ensures { names_in self.new ≡ names_after (names_in self.old) (line.Guest guest input.now) }
+    {
+        let has_task = self.input_has_task(input);
+        self.input_tasks[guest as usize] = has_task;
+        self.declared[guest as usize] = true;
+    }
+
+    fn configure(&mut self, guest: u32, setting: &Setting)
+        requires { guest < 64 }
+        ensures { names_in self.new ≡ names_after (names_in self.old) (line.Configure guest setting.now) }
+    {
+        match setting {
+            Setting::Stdout(output) => {
+                let has_task = self.output_has_task(output);
+                self.output_tasks[guest as usize] = has_task;
+            }
+            Setting::Stderr(output) => {
+                let has_task = self.output_has_task(output);
+                self.error_tasks[guest as usize] = has_task;
+            }
+            Setting::Capacity(_) => {}
         }
     }
 
@@ -100,11 +293,18 @@ impl Declarations {
         ensures err { OnErr result (names_in self.new ≡ names_in self.old) }
     {
         match line {
-            Line::Input { name, input: _ } => self.inputs.add(alloc, name.as_bytes())?,
-            Line::Output { name, output: _ } => self.outputs.add(alloc, name.as_bytes())?,
-            Line::Guest { guest, input: _ } => self.declared[*guest as usize] = true,
+            Line::Input { name, input } => {
+                self.inputs
+                    .add(alloc, name.as_bytes(), is_read_ahead(input))?;
+            }
+            Line::Output { name, output } => {
+                self.outputs
+                    .add(alloc, name.as_bytes(), is_written_behind(output))?;
+            }
+            Line::Guest { guest, input } => self.declare_guest(*guest, input),
+            Line::Configure { guest, setting } => self.configure(*guest, setting),
             Line::Call { guest, call: _ } => self.called[*guest as usize] = true,
-            Line::Configure { .. } | Line::Worker(_) => {}
+            Line::Worker(_) | Line::Turn(_) => {}
         }
         Ok(())
     }

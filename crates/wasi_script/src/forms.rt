@@ -1,5 +1,5 @@
 ghost use Rattle.std.specs.Prelude.{◌≡◌, ◌∷◌, ◌++◌, IfOk};
-ghost use Rattle.wasi_script.specs.Grammar.{meaning_by, without_fields, entry_calls, other_calls, other_lines, call_of, line_of, pipe_of, in_file_of, out_pipe_of, sink_fields, guest_line_of, call_line_of, on_number as on_number_of, reading_of, exit_of, input_of, output_of};
+ghost use Rattle.wasi_script.specs.Grammar.{meaning_by, without_fields, entry_calls, other_calls, other_lines, call_of, line_of, pipe_of, source_fields, out_pipe_of, sink_fields, buffered_of, turn_of, guest_line_of, call_line_of, on_number as on_number_of, reading_of, exit_of, input_of, output_of};
 ghost use Rattle.wasi_script.specs.Fields.{two_fields, guest_of, number_of, capacity_of};
 ghost use Rattle.wasi_script.specs.Bytes.{byte_string_of};
 ghost use Rattle.wasi_script.specs.declared.lines.Call.TheVariants as call;
@@ -9,10 +9,12 @@ ghost use Rattle.wasi_script.specs.Reads.{Reads};
 use crate::bytes::ByteString;
 use crate::lines::{
     Access, Call, EntryCall, ExitStatus, Input, InputDeclaration, Line, Output, OutputDeclaration,
-    OwnCall, Setting, Standard, WorkerTurn,
+    OwnCall, Setting, Standard, StreamTask, WorkerTurn,
 };
 use crate::name::Name;
-use crate::numbers::{parse_capacity, parse_exit_code, parse_guest, parse_number, parse_room};
+use crate::numbers::{
+    parse_budget, parse_capacity, parse_exit_code, parse_guest, parse_number, parse_room,
+};
 use crate::parts::{Parts, is, is_done, only};
 use crate::plan::{ReadPlan, WritePlan};
 use crate::refusal::Refusal;
@@ -49,7 +51,11 @@ fn parse_line(alloc: Global, mut words: Parts) -> Result<Line, Refusal>
     if is(word, b"pipe") {
         parse_pipe(alloc, words)
     } else if is(word, b"infile") {
-        parse_in_file(alloc, words)
+        let (name, bytes, plan) = name_bytes_and_plan(alloc, words)?;
+        Ok(input(name, InputDeclaration::File { bytes, plan }))
+    } else if is(word, b"asyncin") {
+        let (name, bytes, plan) = name_bytes_and_plan(alloc, words)?;
+        Ok(input(name, InputDeclaration::Async { bytes, plan }))
     } else if is(word, b"outpipe") {
         parse_out_pipe(alloc, words)
     } else if is(word, b"outfile") {
@@ -58,6 +64,8 @@ fn parse_line(alloc: Global, mut words: Parts) -> Result<Line, Refusal>
     } else if is(word, b"stdio") {
         let (name, room, plan) = name_room_and_plan(alloc, words)?;
         Ok(output(name, OutputDeclaration::Stdio { room, plan }))
+    } else if is(word, b"buffered") {
+        parse_buffered(alloc, words)
     } else {
         parse_other_line(alloc, word, words)
     }
@@ -84,9 +92,17 @@ fn parse_other_line(alloc: Global, word: &[u8], words: Parts) -> Result<Line, Re
         worker(words, WorkerTurn::Capture)
     } else if is(word, b"deliver") {
         worker(words, WorkerTurn::Deliver)
+    } else if is(word, b"turn") {
+        parse_turn(alloc, words)
     } else {
         Err(Refusal::Invalid)
     }
+}
+
+fn input(name: Name, input: InputDeclaration) -> Line
+    ensures { result ≡ line.Input name input }
+{
+    Line::Input { name, input }
 }
 
 fn output(name: Name, output: OutputDeclaration) -> Line
@@ -114,18 +130,19 @@ fn parse_pipe(alloc: Global, mut words: Parts) -> Result<Line, Refusal>
 {
     let name = Name::read(alloc, words.next().ok_or(Refusal::Invalid)?)?;
     let bytes = ByteString::read_declared(alloc, only(words).ok_or(Refusal::Invalid)?)?;
-    let input = InputDeclaration::Pipe { bytes };
-    Ok(Line::Input { name, input })
+    Ok(input(name, InputDeclaration::Pipe { bytes }))
 }
 
-fn parse_in_file(alloc: Global, mut words: Parts) -> Result<Line, Refusal>
-    ensures { Reads result (in_file_of words.entry) }
+fn name_bytes_and_plan(
+    alloc: Global,
+    mut words: Parts,
+) -> Result<(Name, ByteString, ReadPlan), Refusal>
+    ensures { Reads result (source_fields words.entry) }
 {
     let name = Name::read(alloc, words.next().ok_or(Refusal::Invalid)?)?;
     let bytes = ByteString::read_declared(alloc, words.next().ok_or(Refusal::Invalid)?)?;
     let plan = ReadPlan::read(alloc, only(words).ok_or(Refusal::Invalid)?)?;
-    let input = InputDeclaration::File { bytes, plan };
-    Ok(Line::Input { name, input })
+    Ok((name, bytes, plan))
 }
 
 fn parse_out_pipe(alloc: Global, mut words: Parts) -> Result<Line, Refusal>
@@ -145,6 +162,33 @@ fn name_room_and_plan(alloc: Global, mut words: Parts) -> Result<(Name, u64, Wri
     let room = parse_room(word).ok_or(Refusal::Invalid)?;
     let plan = WritePlan::read(alloc, only(words).ok_or(Refusal::Invalid)?)?;
     Ok((name, room, plan))
+}
+
+fn parse_buffered(alloc: Global, mut words: Parts) -> Result<Line, Refusal>
+    ensures { Reads result (buffered_of words.entry) }
+{
+    let name = Name::read(alloc, words.next().ok_or(Refusal::Invalid)?)?;
+    let word = words.next().ok_or(Refusal::Invalid)?;
+    let room = parse_room(word).ok_or(Refusal::Invalid)?;
+    let plan = WritePlan::read(alloc, words.next().ok_or(Refusal::Invalid)?)?;
+    let word = only(words).ok_or(Refusal::Invalid)?;
+    let budget = parse_budget(word).ok_or(Refusal::Invalid)?;
+    Ok(output(name, OutputDeclaration::Buffered { room, plan, budget }))
+}
+
+fn parse_turn(alloc: Global, mut words: Parts) -> Result<Line, Refusal>
+    ensures { Reads result (turn_of words.entry) }
+{
+    let word = words.next().ok_or(Refusal::Invalid)?;
+    if is(word, b"in") {
+        let name = Name::read(alloc, only(words).ok_or(Refusal::Invalid)?)?;
+        Ok(Line::Turn(StreamTask::Reader(name)))
+    } else if is(word, b"out") {
+        let name = Name::read(alloc, only(words).ok_or(Refusal::Invalid)?)?;
+        Ok(Line::Turn(StreamTask::Writer(name)))
+    } else {
+        Err(Refusal::Invalid)
+    }
 }
 
 fn parse_guest_line(alloc: Global, mut words: Parts) -> Result<Line, Refusal>

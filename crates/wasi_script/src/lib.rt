@@ -14,12 +14,14 @@ mod plan;
 mod refusal;
 
 pub use bytes::ByteString;
+pub use declarations::Declared;
+pub use forms::Reading;
 pub use lines::{
     Access, Call, EntryCall, ExitStatus, Input, InputDeclaration, Line, Output, OutputDeclaration,
-    OwnCall, Setting, Standard, WorkerTurn,
+    OwnCall, Setting, Standard, StreamTask, WorkerTurn,
 };
 pub use name::Name;
-pub use parse::{Script, ScriptError, parse_script};
+pub use parse::{Script, ScriptError, parse_script, read_after};
 pub use plan::{ReadPlan, WritePlan};
 
 #[cfg(test)]

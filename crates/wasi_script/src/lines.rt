@@ -36,19 +36,36 @@ pub enum InputDeclaration {
     /// `infile NAME BYTES PLAN`: a file of these bytes, at most 1048576, whose reads go by the
     /// plan.
     File { bytes: ByteString, plan: ReadPlan },
+    /// `asyncin NAME BYTES PLAN`: such a file, which a task reads ahead of the guests.
+    Async { bytes: ByteString, plan: ReadPlan },
 }
 
 /// What a line says that an output of a name is.
 #[derive(Drop)]
 pub enum OutputDeclaration {
     /// `outpipe NAME CAP`: it keeps what it takes, up to its capacity, at most 1048576 bytes.
-    Pipe { capacity: u64 },
+    Pipe {
+        capacity: u64,
+    },
     /// `outfile NAME ROOM PLAN`: a file of so much room, at most 1048576 bytes, whose writes and
     /// flushes go by the plan.
-    File { room: u64, plan: WritePlan },
+    File {
+        room: u64,
+        plan: WritePlan,
+    },
     /// `stdio NAME ROOM PLAN`: an output of the host's process, of so much room, at most 1048576
     /// bytes, whose writes and flushes go by the plan.
-    Stdio { room: u64, plan: WritePlan },
+    Stdio {
+        room: u64,
+        plan: WritePlan,
+    },
+    /// `buffered NAME ROOM PLAN BUDGET`: such a file, to which a task hands what it buffers: as many
+    /// bytes as its budget at most, from 1 to 1048576.
+    Buffered {
+        room: u64,
+        plan: WritePlan,
+        budget: u64,
+    },
 }
 
 /// What a line says of a guest before its first call.
@@ -145,6 +162,15 @@ pub enum WorkerTurn {
     Deliver,
 }
 
+/// A stream's task.
+#[derive(Drop)]
+pub enum StreamTask {
+    /// `in NAME`: it reads the `asyncin` of this name ahead.
+    Reader(Name),
+    /// `out NAME`: it hands what the `buffered` of this name keeps back to its sink.
+    Writer(Name),
+}
+
 /// A step of a session, by its kind.
 #[derive(Drop)]
 pub enum Line {
@@ -175,4 +201,6 @@ pub enum Line {
     },
     /// The worker has its turn.
     Worker(WorkerTurn),
+    /// `turn in NAME`, `turn out NAME`: a stream's task has its turn.
+    Turn(StreamTask),
 }

@@ -1,7 +1,7 @@
 ghost use Rattle.std.specs.Prelude.{◌≡◌};
 ghost use Rattle.std.specs.List.{list_all};
 ghost use Rattle.std.specs.Char.{is_ascii_digit};
-ghost use Rattle.wasi_script.specs.Fields.{number_of, guest_of, capacity_of, room_of, count_of, exit_code_of};
+ghost use Rattle.wasi_script.specs.Fields.{number_of, guest_of, capacity_of, room_of, count_of, budget_of, exit_code_of};
 
 /// A number of 1 to 20 decimal digits that a u64 holds. Leading zeros are fine.
 #[tactic(auto, using(crate::proofs::NumberFacts::number_parsed))]
@@ -66,6 +66,18 @@ pub fn parse_count(text: &[u8]) -> Option<u32>
     let number = parse_number(text)?;
     if 1 <= number && number <= 1048576 {
         Some(number as u32)
+    } else {
+        None
+    }
+}
+
+/// The budget of an output that buffers, from 1 to 1048576 bytes.
+pub fn parse_budget(text: &[u8]) -> Option<u64>
+    ensures { result ≡ budget_of text.now }
+{
+    let number = parse_number(text)?;
+    if 1 <= number && number <= 1048576 {
+        Some(number)
     } else {
         None
     }

@@ -1,9 +1,8 @@
 ghost use Rattle.std.specs.Prelude.{◌≡◌, ◌≤◌, ◌<◌, ◌↔◌, ◌∷◌, ◌++◌, [], Some, length, slice_get, IsTrue, IfOk, IfErr, OnOk};
-ghost use Rattle.wasi_script.specs.Declarations.{names_in};
 ghost use Rattle.wasi_script.specs.Grammar.{parsed, Steps, Bad, reading_after, AllStand, no_names};
 ghost use Rattle.wasi_script.specs.Refused.{OnBadLine};
 
-use crate::declarations::Declarations;
+use crate::declarations::{Declarations, Declared};
 use crate::forms::{Reading, read_line};
 use crate::lines::Line;
 use crate::parts::Parts;
@@ -107,16 +106,16 @@ fn keep(steps: &mut Vec<Line>, line: Line) -> Result<(), OutOfMemory>
     Ok(())
 }
 
-// What a line is after the lines so far.
-fn read_after(
+/// What a line of text, without its end, is after what was declared.
+pub fn read_after<D: Declared>(
     alloc: Global,
-    declarations: &Declarations,
+    declared: &D,
     text: &[u8],
 ) -> Result<Reading, OutOfMemory>
-    ensures { IfOk result (λ reading. reading ≡ reading_after (names_in declarations.now) text.now) }
+    ensures { IfOk result (λ reading. reading ≡ reading_after (D.names declared.now) text.now) }
 {
     match read_line(alloc, text)? {
-        Reading::Step(line) if !declarations.allow(&line) => Ok(Reading::Invalid),
+        Reading::Step(line) if !declared.allow(&line) => Ok(Reading::Invalid),
         reading => Ok(reading),
     }
 }

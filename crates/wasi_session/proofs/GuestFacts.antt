@@ -1,16 +1,17 @@
 -- What a call of a guest and a line that says more of one leave of the host.
-use Rattle.std.proofs.Common.{◌≡◌, ℕ, zero, suc, ◌<◌, List, [], ◌∷◌, length, get_or, set, Option, Some, None, Result, Ok, Err, refl, ap, arith, sym, Bool, true, false, cond, ◌∙◌}
-use Rattle.std.specs.Prelude.{IfOk, OnOk, not, ◌||◌, ◌&&◌, is_some}
+use Rattle.std.proofs.Common.{◌≡◌, ℕ, zero, suc, ◌<◌, List, [], ◌∷◌, length, get_or, set, Option, Some, None, Result, Ok, Err, refl, ap, arith, sym, true}
+use Rattle.std.specs.Prelude.{IfOk, OnOk}
 use Rattle.std.specs.Map.{lookup}
 use Rattle.std.specs.Str.{bytes_eq}
 use Rattle.std.specs.Option.{option_map}
 use Rattle.wasi_stdin.specs.Shared.{Shared}
 use Rattle.wasi_script.specs.declared.lines.Setting.{Setting}
 use Rattle.wasi_script.specs.declared.lines.Call.{Call}
-use Rattle.wasi_script.specs.Grammar.{may_declare, is_among}
+use Rattle.wasi_script.specs.Grammar.{may_declare}
+use Rattle.wasi_script.specs.laws.Distinct.{is_new}
+use Rattle.wasi_script.specs.laws.Rows.{absent_is}
 use Rattle.wasi_reply.specs.declared.reply.Reply.{Reply}
-use Rattle.wasi_host.specs.Host.{Named, Guest, Streams, Host, Answered, names_in, names_of, configured, answer_by, answer, called_in, the_rules, guest_of, put_answered}
-use Rattle.wasi_host.specs.laws.Steps.{first_of, second_of}
+use Rattle.wasi_host.specs.Host.{Guest, Streams, Host, Answered, names_of, configured, answer_by, answer, called_in, the_rules, guest_of, put_answered}
 
 -- a guest that is there
 there : (guests : List (Option Guest)) (n : ℕ) (it : Option Guest) → n < length guests → it ≡ get_or guests n it → get_or guests n None ≡ it
@@ -29,25 +30,9 @@ configured_done (Ok done) host n setting guest left it within is some left_is =
     rw (there host.guests n it within is, some, left_is) refl
 
 -- a name that may be declared names no stream yet
-among_is : {A : Type 0} (name : List ℕ) (named : Named A) → is_among name (names_in named) ≡ is_some (lookup (bytes_eq name) named)
-among_is name [] = refl
-among_is {A} name (row ∷ named) = by (bytes_eq name row.0) (among_is name named)
-  where
-    by : (b : Bool) → is_among name (names_in named) ≡ is_some (lookup (bytes_eq name) named) → (b || is_among name (names_in named)) ≡ is_some (cond b (Some row.1) (lookup (bytes_eq name) named))
-    by true rest = refl
-    by false rest = rest
-
-none_of : {A : Type 0} (o : Option A) → is_some o ≡ false → o ≡ None
-none_of None e = refl
-none_of (Some x) e = absurd (cc)
-
-not_of : (b : Bool) → not b ≡ true → b ≡ false
-not_of true h = absurd (cc)
-not_of false h = refl
-
 module _ (host : Host) (name : List ℕ) (may : may_declare (names_of host) name ≡ true) where
   pub no_input : lookup (bytes_eq name) host.streams.inputs ≡ None
-  no_input = none_of (lookup (bytes_eq name) host.streams.inputs) (sym (among_is name host.streams.inputs) ∙ not_of _ (first_of _ (not (is_among name (names_in host.streams.outputs))) (second_of _ (not (is_among name (names_in host.streams.inputs)) && not (is_among name (names_in host.streams.outputs))) may)))
+  no_input = absent_is name host.streams.inputs (is_new _ _ _ may).0
 
   pub no_output : lookup (bytes_eq name) host.streams.outputs ≡ None
-  no_output = none_of (lookup (bytes_eq name) host.streams.outputs) (sym (among_is name host.streams.outputs) ∙ not_of _ (second_of (not (is_among name (names_in host.streams.inputs))) _ (second_of _ (not (is_among name (names_in host.streams.inputs)) && not (is_among name (names_in host.streams.outputs))) may)))
+  no_output = absent_is name host.streams.outputs (is_new _ _ _ may).1

@@ -1,11 +1,11 @@
--- A stream among the rows of a map by name: found, written, and one more.
-use Rattle.std.proofs.Common.{◌≡◌, ℕ, Bool, true, false, cond, List, [], ◌∷◌, ◌++◌, Some, None, Result, Ok, Err, refl, ap, sym, ◌∙◌, true≢false}
+-- A stream among the rows of a map by name: found, and written.
+use Rattle.std.proofs.Common.{◌≡◌, ℕ, Bool, true, false, cond, List, [], ◌∷◌, Some, None, Result, Ok, Err, refl, ap, sym, ◌∙◌, true≢false}
 use Rattle.std.specs.Prelude.{IfOk, OnOk, OnErr, is_some, unwrap_or, Vec}
 use Rattle.std.specs.Map.{lookup, set_value}
 use Rattle.std.specs.Str.{bytes_eq}
-use Rattle.indexmap.specs.IndexMap.{insert_entry}
 use Rattle.wasi_host.specs.Host.{Named, Streams, taken_out, put_back}
-use Rattle.wasi_session.specs.Rows.{rows_of}
+use Rattle.wasi_script.specs.Rows.{rows_of}
+use Rattle.wasi_script.specs.laws.Rows.{rows_lookup}
 
 module _ {K V : Type 0} (test : K → Bool) where
   pub absent_same : (es : List (K × V)) (w : V) → lookup test es ≡ None → set_value test es w ≡ es
@@ -25,10 +25,6 @@ module _ {K V : Type 0} (test : K → Bool) where
       by rest false e = ap (λ es. row ∷ es) (rest e)
 
 module _ {A V : Type 0} (name : List ℕ) where
-  rows_lookup : (es : List (Vec ℕ A × V)) → lookup (bytes_eq name) (rows_of es) ≡ lookup (λ (key : Vec ℕ A). bytes_eq name key.items) es
-  rows_lookup [] = refl
-  rows_lookup (row ∷ es) = ap (cond (bytes_eq name row.0.items) (Some row.1)) (rows_lookup es)
-
   rows_set : (es : List (Vec ℕ A × V)) (w : V) → rows_of (set_value (λ (key : Vec ℕ A). bytes_eq name key.items) es w) ≡ set_value (bytes_eq name) (rows_of es) w
   rows_set [] w = refl
   rows_set (row ∷ es) w = by (rows_set es w) (bytes_eq name row.0.items)
@@ -36,21 +32,6 @@ module _ {A V : Type 0} (name : List ℕ) where
       by : rows_of (set_value (λ (key : Vec ℕ A). bytes_eq name key.items) es w) ≡ set_value (bytes_eq name) (rows_of es) w → (b : Bool) → rows_of (cond b ((row.0, w) ∷ es) (row ∷ set_value (λ (key : Vec ℕ A). bytes_eq name key.items) es w)) ≡ cond b ((row.0.items, w) ∷ rows_of es) ((row.0.items, row.1) ∷ set_value (bytes_eq name) (rows_of es) w)
       by rest true = refl
       by rest false = ap (λ es. (row.0.items, row.1) ∷ es) rest
-
-rows_push : {A V : Type 0} (es : List (Vec ℕ A × V)) (key : Vec ℕ A) (it : V) → lookup (bytes_eq key.items) (rows_of es) ≡ None → rows_of (insert_entry (λ (a b : Vec ℕ A). bytes_eq a.items b.items) es key it) ≡ rows_of es ++ (key.items, it) ∷ []
-rows_push [] key it e = refl
-rows_push {A} {V} (row ∷ es) key it e = by (λ e. rows_push es key it e) (bytes_eq key.items row.0.items) e
-  where
-    by : (lookup (bytes_eq key.items) (rows_of es) ≡ None → rows_of (insert_entry (λ (a b : Vec ℕ A). bytes_eq a.items b.items) es key it) ≡ rows_of es ++ (key.items, it) ∷ []) → (b : Bool) → cond b (Some row.1) (lookup (bytes_eq key.items) (rows_of es)) ≡ None → rows_of (cond b ((row.0, it) ∷ es) (row ∷ insert_entry (λ (a b : Vec ℕ A). bytes_eq a.items b.items) es key it)) ≡ ((row.0.items, row.1) ∷ rows_of es) ++ (key.items, it) ∷ []
-    by rest true e = absurd (true≢false (ap is_some e))
-    by rest false e = ap (λ es. (row.0.items, row.1) ∷ es) (rest e)
-
--- a new row
-pub row_added : {A V : Type 0} (es es' : List (Vec ℕ A × V)) (now : List (List ℕ × V)) (key : Vec ℕ A) (name : List ℕ) (it : V) → rows_of es ≡ now → key.items ≡ name → lookup (bytes_eq name) now ≡ None → es' ≡ insert_entry (λ (a b : Vec ℕ A). bytes_eq a.items b.items) es key it → rows_of es' ≡ now ++ (name, it) ∷ []
-row_added es es' now key name it is named none after =
-    ap rows_of after
-    ∙ rows_push es key it (ap (λ name. lookup (bytes_eq name) (rows_of es)) named ∙ ap (lookup (bytes_eq name)) is ∙ none)
-    ∙ (λ i. is i ++ (named i, it) ∷ [])
 
 -- a stream that is there: it is the one that is taken out, and what is written is put back
 pub row_there : {A S : Type 0} (none : S) (es : List (Vec ℕ A × S)) (name : List ℕ) (it : S) → Some it ≡ lookup (λ (key : Vec ℕ A). bytes_eq name key.items) es → taken_out none name (rows_of es) ≡ it

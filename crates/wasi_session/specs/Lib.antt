@@ -1,4 +1,3 @@
-pub mod Rows
 pub mod Sitting
 pub mod Reading
 pub mod Program

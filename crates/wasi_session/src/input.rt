@@ -1,5 +1,6 @@
 ghost use Rattle.std.specs.Prelude.{◌≡◌, IfOk, OnOk, OnErr};
-ghost use Rattle.wasi_host.specs.InStreams.{input_read, input_skip, input_poll_read, after_input_read};
+ghost use Rattle.wasi_host.specs.InStreams.{input_read, input_skip, after_input_read, input_poll_read, after_input_poll_read, input_is_ready};
+ghost use Rattle.wasi_host.specs.Tasks.{input_turned};
 ghost use Rattle.wasi_host.specs.Calls.{called, result_told, poll_told};
 ghost use Rattle.wasi_session.specs.Makes.{IsMake};
 
@@ -8,7 +9,7 @@ use bytes::Bytes;
 use std::alloc::Global;
 use wasi_base::{OutOfMemory, Polled, StreamError};
 use wasi_host::{Deed, Entry, InStream, Owner, StreamEntry};
-use wasi_reply::{Piece, Told};
+use wasi_reply::{Piece, Told, Worked};
 use wasi_script::{EntryCall, Standard};
 use wasi_streams::InputStream;
 
@@ -42,7 +43,7 @@ pub fn called(
             Ok(Deed::Tell(poll_read(alloc, stream, *room)?))
         }
         (EntryCall::Ready | EntryCall::Block, StreamEntry::Pollable) => {
-            Ok(Deed::Tell(Told::Truth(true)))
+            Ok(Deed::Tell(Told::Truth(is_ready(stream))))
         }
         _ => Ok(mistaken()),
     }
@@ -69,6 +70,7 @@ fn read(alloc: Global, stream: &mut InStream, size: u64) -> Result<Told, OutOfMe
     let answer = match stream {
         InStream::Pipe(pipe) => pipe.read(alloc, size),
         InStream::File(file) => file.read(alloc, size),
+        InStream::Async(input) => input.read(alloc, size),
         InStream::Closed => Err(StreamError::Closed),
     };
     match answer {
@@ -87,6 +89,7 @@ fn skip(stream: &mut InStream, size: u64) -> Told
     let answer = match stream {
         InStream::Pipe(pipe) => pipe.skip(size),
         InStream::File(file) => file.skip(size),
+        InStream::Async(input) => input.skip(size),
         InStream::Closed => Err(StreamError::Closed),
     };
     told_count(answer)
@@ -94,12 +97,13 @@ fn skip(stream: &mut InStream, size: u64) -> Told
 
 fn poll_read(alloc: Global, stream: &mut InStream, room: u64) -> Result<Told, OutOfMemory>
     ensures told { IfOk result (λ told. told ≡ poll_told Told.Bytes (input_poll_read stream.old room)) }
-    ensures left { OnOk result (stream.new ≡ after_input_read stream.old room) }
+    ensures left { OnOk result (stream.new ≡ after_input_poll_read stream.old room) }
     ensures err { OnErr result (stream.new ≡ stream.old) }
 {
     let answer = match stream {
         InStream::Pipe(pipe) => pipe.poll_read(room),
         InStream::File(file) => file.poll_read(alloc, room),
+        InStream::Async(_) => Ok(Polled::Pending),
         InStream::Closed => Ok(Polled::Ready(Bytes::new())),
     };
     match answer {
@@ -107,5 +111,26 @@ fn poll_read(alloc: Global, stream: &mut InStream, room: u64) -> Result<Told, Ou
         Ok(Polled::Ready(bytes)) => Ok(Told::Bytes(Piece::shared(bytes))),
         Ok(Polled::Failed(kind)) => Ok(Told::Failed(kind)),
         Err(OutOfMemory) => Err(OutOfMemory),
+    }
+}
+
+fn is_ready(stream: &mut InStream) -> bool
+    ensures answer { result ≡ input_is_ready stream.old }
+    ensures same { stream.new ≡ stream.old }
+{
+    match stream {
+        InStream::Async(input) => input.ready(),
+        InStream::Closed | InStream::Pipe(_) | InStream::File(_) => true,
+    }
+}
+
+/// A turn of the task of an input; one that has none has nothing to do.
+pub fn read_ahead(stream: &mut InStream) -> Worked
+    ensures told { result ≡ (input_turned stream.old).told }
+    ensures left { stream.new ≡ (input_turned stream.old).left }
+{
+    match stream {
+        InStream::Async(input) => input.turn(),
+        InStream::Closed | InStream::Pipe(_) | InStream::File(_) => Worked::Idle,
     }
 }

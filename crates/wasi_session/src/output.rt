@@ -1,5 +1,6 @@
 ghost use Rattle.std.specs.Prelude.{◌≡◌, IfOk, OnOk, OnErr};
-ghost use Rattle.wasi_host.specs.OutStreams.{output_check_write, output_write, after_output_write, output_flush, after_output_flush, output_poll_write, after_output_poll_write, output_poll_flush};
+ghost use Rattle.wasi_host.specs.OutStreams.{output_check_write, after_output_check_write, output_write, after_output_write, output_flush, after_output_flush, output_poll_write, after_output_poll_write, output_poll_flush, after_output_poll_flush, output_is_ready};
+ghost use Rattle.wasi_host.specs.Tasks.{output_turned};
 ghost use Rattle.wasi_host.specs.Calls.{sent, result_told, poll_told, is_done};
 ghost use Rattle.wasi_session.specs.Makes.{IsMake};
 
@@ -9,7 +10,7 @@ use bytes::Bytes;
 use std::alloc::Global;
 use wasi_base::{OutOfMemory, Polled, StreamError};
 use wasi_host::{Deed, Entry, OutStream, Owner, StreamEntry};
-use wasi_reply::Told;
+use wasi_reply::{Told, Worked};
 use wasi_script::{EntryCall, Standard};
 use wasi_streams::OutputStream;
 
@@ -48,7 +49,7 @@ pub fn sent(
         }
         (EntryCall::PollFlush, StreamEntry::Polled) => Ok(Deed::Tell(poll_flush(stream))),
         (EntryCall::Ready | EntryCall::Block, StreamEntry::Pollable) => {
-            Ok(Deed::Tell(Told::Truth(true)))
+            Ok(Deed::Tell(Told::Truth(is_ready(stream))))
         }
         _ => Ok(mistaken()),
     }
@@ -70,7 +71,7 @@ pub fn sent_closed(
 
 fn check_write(stream: &mut OutStream) -> Told
     ensures told { result ≡ result_told Told.Count (output_check_write stream.old) }
-    ensures same { stream.new ≡ stream.old }
+    ensures left { stream.new ≡ after_output_check_write stream.old }
 {
     let answer = match stream {
         OutStream::Closed => Err(StreamError::Closed),
@@ -78,6 +79,7 @@ fn check_write(stream: &mut OutStream) -> Told
         OutStream::Pipe(pipe) => pipe.check_write(),
         OutStream::File(file) => file.check_write(),
         OutStream::Stdio(output) => output.check_write(),
+        OutStream::Buffered(output) => output.check_write(),
     };
     told_count(answer)
 }
@@ -92,6 +94,7 @@ fn write(stream: &mut OutStream, bytes: Bytes) -> Told
         OutStream::Pipe(pipe) => pipe.write(bytes),
         OutStream::File(file) => file.write(bytes),
         OutStream::Stdio(output) => output.write(bytes),
+        OutStream::Buffered(output) => output.write(bytes),
     };
     told_done(answer)
 }
@@ -106,6 +109,7 @@ fn flush(stream: &mut OutStream) -> Told
         OutStream::Pipe(pipe) => pipe.flush(),
         OutStream::File(file) => file.flush(),
         OutStream::Stdio(output) => output.flush(),
+        OutStream::Buffered(output) => output.flush(),
     };
     told_done(answer)
 }
@@ -120,18 +124,49 @@ fn poll_write(stream: &mut OutStream, piece: &[u8]) -> Told
         OutStream::Pipe(pipe) => Polled::Ready(pipe.poll_write(piece)),
         OutStream::File(file) => file.poll_write(piece),
         OutStream::Stdio(output) => output.poll_write(piece),
+        OutStream::Buffered(_) => Polled::Pending,
     };
     told_polled_count(answer)
 }
 
 fn poll_flush(stream: &mut OutStream) -> Told
     ensures told { result ≡ poll_told is_done (output_poll_flush stream.old) }
-    ensures left { stream.new ≡ after_output_flush stream.old }
+    ensures left { stream.new ≡ after_output_poll_flush stream.old }
 {
     let answer = match stream {
         OutStream::File(file) => file.poll_flush(),
         OutStream::Stdio(output) => output.poll_flush(),
+        OutStream::Buffered(_) => Polled::Pending,
         OutStream::Closed | OutStream::Sink | OutStream::Pipe(_) => Polled::Ready(()),
     };
     told_polled_done(answer)
+}
+
+fn is_ready(stream: &mut OutStream) -> bool
+    ensures answer { result ≡ output_is_ready stream.old }
+    ensures same { stream.new ≡ stream.old }
+{
+    match stream {
+        OutStream::Buffered(output) => output.ready(),
+        OutStream::Closed
+        | OutStream::Sink
+        | OutStream::Pipe(_)
+        | OutStream::File(_)
+        | OutStream::Stdio(_) => true,
+    }
+}
+
+/// A turn of the task of an output; one that has none has nothing to do.
+pub fn write_behind(stream: &mut OutStream) -> Worked
+    ensures told { result ≡ (output_turned stream.old).told }
+    ensures left { stream.new ≡ (output_turned stream.old).left }
+{
+    match stream {
+        OutStream::Buffered(output) => output.turn(),
+        OutStream::Closed
+        | OutStream::Sink
+        | OutStream::Pipe(_)
+        | OutStream::File(_)
+        | OutStream::Stdio(_) => Worked::Idle,
+    }
 }

@@ -1,8 +1,8 @@
 ghost use Rattle.std.specs.Prelude.{true, false, ◌≡◌, ◌^◌, ◌-◌, ◌<◌, ◌≤◌, ◌++◌, IfOk, OnOk, OnErr, IsErr, None};
 ghost use Rattle.wasi_base.specs.Causes.{Rose};
 ghost use Rattle.wasi_stdin.specs.Shared.{given_now};
-ghost use Rattle.wasi_reply.specs.Reply.{reply_line, OnFault};
-ghost use Rattle.wasi_host.specs.Host.{new_host, IsStep, Fits, reply_to, size_read};
+ghost use Rattle.wasi_reply.specs.Reply.{reply_line};
+ghost use Rattle.wasi_host.specs.Host.{new_host, IsStep, OnInputFault, Fits, reply_to, size_read};
 ghost use Rattle.wasi_host.specs.Transcript.{outputs_of};
 ghost use Rattle.wasi_reply.specs.Outputs.{output_lines};
 ghost use Rattle.wasi_session.specs.Sitting.{Stopped};
@@ -62,7 +62,7 @@ impl Session {
         ensures step { OnOk result (IsStep (I.told stdin.old) (I.told stdin.new) self.old.host self.new.host line.now (reply_to line.now self.old.host (given_now self.new.host.shared))) }
         ensures unread { size_read line.now self.old.host ≡ None → stdin.new ≡ stdin.old }
         ensures later { I.faults stdin.old ≤ I.faults stdin.new }
-        ensures fault { OnOk result (OnFault (reply_to line.now self.old.host (given_now self.new.host.shared)) (Rose (I.faults stdin.old) (I.faults stdin.new))) }
+        ensures fault { OnOk result (OnInputFault line.now (reply_to line.now self.old.host (given_now self.new.host.shared)) (Rose (I.faults stdin.old) (I.faults stdin.new))) }
         ensures ready { OnOk result ((self.old.refused ≡ false) × (self.new.refused ≡ false)) }
         ensures refused { OnErr result (self.new.refused ≡ true) }
         ensures same { OnErr result (reply.new.items ≡ reply.old.items) }

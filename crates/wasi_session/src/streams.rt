@@ -5,20 +5,21 @@ ghost use Rattle.wasi_reply.specs.Outputs.{output_line, output_lines};
 ghost use Rattle.wasi_host.specs.declared.stream.InStream.TheVariants as in_stream;
 ghost use Rattle.wasi_host.specs.declared.stream.OutStream.TheVariants as out_stream;
 ghost use Rattle.wasi_host.specs.Calls.{called, sent};
-ghost use Rattle.wasi_host.specs.Host.{taken_out, put_back};
+ghost use Rattle.wasi_host.specs.Tasks.{input_turned, output_turned};
+ghost use Rattle.wasi_host.specs.Host.{the_rules, taken_out, put_back, task_told, after_task};
 ghost use Rattle.wasi_host.specs.Transcript.{outputs_of};
 ghost use Rattle.wasi_session.specs.Makes.{IsMake};
 ghost use Rattle.wasi_session.specs.StreamCalls.{input_doing, output_doing};
 
-use crate::input::{called, called_closed};
-use crate::output::{sent, sent_closed};
+use crate::input::{called, called_closed, read_ahead};
+use crate::output::{sent, sent_closed, write_behind};
 use indexmap::IndexMap;
 use std::alloc::Global;
 use std::marker::Model;
 use wasi_base::OutOfMemory;
 use wasi_host::{Deed, InStream, OutStream, Owner, StreamEntry};
-use wasi_reply::push_output;
-use wasi_script::{EntryCall, Input, Name, Output, Standard};
+use wasi_reply::{Worked, push_output};
+use wasi_script::{EntryCall, Input, Name, Output, Standard, StreamTask};
 
 /// The declared streams by their names, each kind in order of declaration.
 #[derive(Drop)]
@@ -32,7 +33,7 @@ impl Model for Streams {
     ghost use Rattle.wasi_host.specs.contracts.stream.OutStream.{the_row as out_row};
     ghost use Rattle.wasi_host.specs.Host.{Streams};
     ghost use Rattle.wasi_host.specs.Codes.{streams_code};
-    ghost use Rattle.wasi_session.specs.Rows.{rows_of};
+    ghost use Rattle.wasi_script.specs.Rows.{rows_of};
 
     ghost Value = { Streams };
 
@@ -166,6 +167,37 @@ impl Streams {
         match self.outputs.get_mut(name) {
             Some(stream) => sent(alloc, stream, call, which, at, entry),
             None => sent_closed(alloc, call, which, at, entry),
+        }
+    }
+
+    /// A turn of a stream's task.
+    pub fn turn(&mut self, task: &StreamTask) -> Worked
+        ensures told { result ≡ task_told the_rules task.now self.old }
+        ensures left { self.new ≡ after_task the_rules task.now self.old }
+    {
+        match task {
+            StreamTask::Reader(name) => self.turn_input(name.as_bytes()),
+            StreamTask::Writer(name) => self.turn_output(name.as_bytes()),
+        }
+    }
+
+    fn turn_input(&mut self, name: &[u8]) -> Worked
+        ensures told { result ≡ (input_turned (taken_out in_stream.Closed name.now self.old.inputs)).told }
+        ensures left { self.new ≡ record self.old { inputs = put_back name.now (input_turned (taken_out in_stream.Closed name.now self.old.inputs)).left self.old.inputs } }
+    {
+        match self.inputs.get_mut(name) {
+            Some(stream) => read_ahead(stream),
+            None => Worked::Idle,
+        }
+    }
+
+    fn turn_output(&mut self, name: &[u8]) -> Worked
+        ensures told { result ≡ (output_turned (taken_out out_stream.Closed name.now self.old.outputs)).told }
+        ensures left { self.new ≡ record self.old { outputs = put_back name.now (output_turned (taken_out out_stream.Closed name.now self.old.outputs)).left self.old.outputs } }
+    {
+        match self.outputs.get_mut(name) {
+            Some(stream) => write_behind(stream),
+            None => Worked::Idle,
         }
     }
 

@@ -4,10 +4,10 @@ ghost use Rattle.std.specs.Str.{bytes_eq};
 ghost use Rattle.wasi_base.specs.Causes.{Rose};
 ghost use Rattle.wasi_base.specs.Source.{Gives};
 ghost use Rattle.wasi_stdin.specs.Shared.{given_now};
-ghost use Rattle.wasi_script.specs.Grammar.{setting_stands};
+ghost use Rattle.wasi_script.specs.Grammar.{setting_stands, budget_stands};
 ghost use Rattle.wasi_reply.specs.Reply.{OnFault};
 ghost use Rattle.wasi_reply.specs.Outputs.{output_lines};
-ghost use Rattle.wasi_host.specs.Host.{the_rules, new_guest, configured, new_input, new_output, new_outlet, new_host, guest_of, answer, called_in, with_input, with_output, with_guest, delivery_told, after_delivery, captured_told, outcome_told, turn_told, after_turn, names_of, IsStep, Fits, size_read};
+ghost use Rattle.wasi_host.specs.Host.{the_rules, new_guest, configured, new_input, new_output, new_outlet, new_host, guest_of, answer, called_in, with_input, with_output, with_guest, delivery_told, after_delivery, captured_told, outcome_told, turn_told, after_turn, task_told, after_task, names_of, IsStep, OnInputFault, Fits, size_read};
 ghost use Rattle.wasi_host.specs.Transcript.{outputs_of};
 ghost use Rattle.std.specs.Option.{option_map};
 ghost use Rattle.wasi_stdin.specs.Shared.{capture_of, after_capture};
@@ -18,10 +18,13 @@ use crate::streams::Streams;
 use std::alloc::Global;
 use std::marker::Model;
 use wasi_base::{MemSink, MemSource, OutOfMemory, Source};
-use wasi_host::{FileInput, FileOutput, InStream, OutStream, ProcessOutput};
+use wasi_host::{
+    AsyncInput, BufferedOutput, FileInput, FileOutput, InStream, OutStream, ProcessOutput,
+};
 use wasi_reply::{Reply, Told, Worked};
 use wasi_script::{
-    Call, Input, InputDeclaration, Line, Name, OutputDeclaration, Setting, WorkerTurn, WritePlan,
+    Call, Input, InputDeclaration, Line, Name, OutputDeclaration, Setting, StreamTask, WorkerTurn,
+    WritePlan,
 };
 use wasi_stdin::{MOST_BYTES, Outcome, StdinCore, deliver_from};
 use wasi_streams::{MemoryInputPipe, MemoryOutputPipe};
@@ -76,11 +79,18 @@ fn open_input(alloc: Global, it: &InputDeclaration) -> Result<InStream, OutOfMem
             let plan = plan.to_vec(alloc)?;
             Ok(InStream::File(FileInput::new(MemSource::new(bytes, plan))))
         }
+        InputDeclaration::Async { bytes, plan } => {
+            let bytes = bytes.to_vec(alloc)?;
+            let plan = plan.to_vec(alloc)?;
+            let input = AsyncInput::new(alloc, MemSource::new(bytes, plan))?;
+            Ok(InStream::Async(input))
+        }
     }
 }
 
 // .. and what an output is.
 fn open_output(alloc: Global, it: &OutputDeclaration) -> Result<OutStream, OutOfMemory>
+    requires { budget_stands it.now ≡ true }
     ensures { IfOk result (λ output. output ≡ new_output it.now) }
 {
     match it {
@@ -92,6 +102,11 @@ fn open_output(alloc: Global, it: &OutputDeclaration) -> Result<OutStream, OutOf
         }
         OutputDeclaration::Stdio { room, plan } => {
             Ok(OutStream::Stdio(ProcessOutput::new(new_sink(alloc, *room, plan)?)))
+        }
+        OutputDeclaration::Buffered { room, plan, budget } => {
+            let sink = new_sink(alloc, *room, plan)?;
+            let output = BufferedOutput::new(alloc, *budget, sink)?;
+            Ok(OutStream::Buffered(output))
         }
     }
 }
@@ -165,7 +180,8 @@ impl World {
         name: &Name,
         it: &OutputDeclaration,
     ) -> Result<(), OutOfMemory>
-        requires { lookup (bytes_eq name.now) self.old.streams.outputs ≡ None }
+        requires new { lookup (bytes_eq name.now) self.old.streams.outputs ≡ None }
+        requires stands { budget_stands it.now ≡ true }
         ensures ok { OnOk result (self.new ≡ with_output name.now (new_output it.now) self.old) }
         ensures err { OnErr result (self.new ≡ self.old) }
     {
@@ -240,6 +256,13 @@ impl World {
         }
     }
 
+    fn turn(&mut self, task: &StreamTask) -> Worked
+        ensures told { result ≡ task_told the_rules task.now self.old.streams }
+        ensures left { self.new ≡ record self.old { streams = after_task the_rules task.now self.old.streams } }
+    {
+        self.streams.turn(task)
+    }
+
     /// One step.
     pub fn answer<I: Source>(
         &mut self,
@@ -252,7 +275,7 @@ impl World {
         ensures step { IfOk result (λ reply. IsStep (I.told stdin.old) (I.told stdin.new) self.old self.new line.now reply) }
         ensures unread { size_read line.now self.old ≡ None → stdin.new ≡ stdin.old }
         ensures later { I.faults stdin.old ≤ I.faults stdin.new }
-        ensures fault { IfOk result (λ reply. OnFault reply (Rose (I.faults stdin.old) (I.faults stdin.new))) }
+        ensures fault { IfOk result (λ reply. OnInputFault line.now reply (Rose (I.faults stdin.old) (I.faults stdin.new))) }
         ensures err { OnErr result ((self.new ≡ self.old) × (stdin.new ≡ stdin.old)) }
     {
         match line {
@@ -263,6 +286,7 @@ impl World {
             Line::Call { guest, call } => self.call(alloc, *guest, call),
             Line::Worker(WorkerTurn::Capture) => Ok(Reply::Worked(self.capture())),
             Line::Worker(WorkerTurn::Deliver) => Ok(Reply::Worked(self.deliver(stdin))),
+            Line::Turn(task) => Ok(Reply::Worked(self.turn(task))),
         }
     }
 }

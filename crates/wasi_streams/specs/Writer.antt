@@ -119,9 +119,10 @@ abbrev pub flushed_left : {K : Type 0} → Result (Unit {0}) IoKind → Writer K
 flushed_left (Ok done) w sink = record { sink = sink; budget = w.budget; buffered = []; flushing = false; trouble = w.trouble }
 flushed_left (Err kind) w sink = record { sink = sink; budget = w.budget; buffered = []; flushing = w.flushing; trouble = Untold kind }
 
--- the sink is flushed once
-pub record FlushesSink {K : Type 0} (limits : K → Option Limits) (before : Writer K) (answer : WriterTurn) (after : Writer K) : Type 0 where
+-- the sink is flushed once, which changes no byte
+pub record FlushesSink {K : Type 0} (taken : K → Option (List ℕ)) (limits : K → Option Limits) (before : Writer K) (answer : WriterTurn) (after : Writer K) : Type 0 where
   pub flush : Result (Unit {0}) IoKind
+  pub same : taken after.sink ≡ taken before.sink
   pub told : Flushes (limits before.sink) flush (limits after.sink)
   pub answer_is : answer ≡ turn_flushed flush
   pub after_is : after ≡ flushed_left flush before after.sink

@@ -92,7 +92,7 @@ impl<K: Sink + Drop> AsyncWriteStream<K> {
     pub fn turn(&mut self) -> WriterTurn
         ensures idle { work_of self.old ≡ Nothing_left → (result ≡ WriterTurn.Idle) × (self.new ≡ self.old) }
         ensures writes { work_of self.old ≡ Writing → WritesOnce K.taken K.limits self.old result self.new }
-        ensures flushes { work_of self.old ≡ Flushing → FlushesSink K.limits self.old result self.new }
+        ensures flushes { work_of self.old ≡ Flushing → FlushesSink K.taken K.limits self.old result self.new }
         ensures later { K.faults self.old.sink ≤ K.faults self.new.sink }
         ensures fault { OnTurnFault result (Rose (K.faults self.old.sink) (K.faults self.new.sink)) }
     {

@@ -20,7 +20,7 @@ use Rattle.wasi_script.specs.declared.lines.WorkerTurn.{WorkerTurn}
 use Rattle.wasi_script.specs.declared.lines.WorkerTurn.TheVariants as turn
 use Rattle.wasi_script.specs.declared.lines.Line.{Line}
 use Rattle.wasi_script.specs.declared.lines.Line.TheVariants as line
-use Rattle.wasi_script.specs.Grammar.{AllStand, may_stand, may_set_up, setting_stands, no_names, Names, names_end}
+use Rattle.wasi_script.specs.Grammar.{AllStand, may_stand, may_set_up, call_stands, setting_stands, no_names, Names, names_end}
 use Rattle.wasi_script.specs.laws.Distinct.{declared_names_distinct}
 use Rattle.wasi_table.specs.Table.{Held, held_at}
 use Rattle.wasi_reply.specs.Outputs.{output_lines}
@@ -35,7 +35,8 @@ use Rattle.wasi_host.specs.laws.Entries.{IsOwn, own_new}
 use Rattle.wasi_host.specs.laws.Shown.{standing_at, standing_in, standing_with, shares_in, capacity_in, ended_in, shown, cond_same, get_set, shown_put, nothing_stands, declare_shown}
 use Rattle.wasi_host.specs.laws.GuestCalls.{IsGuest, OwnedBy, owned_put, Next, call_next}
 use Rattle.wasi_host.specs.laws.Deliveries.{capture_next, deliver_next}
-use Rattle.wasi_host.specs.laws.Steps.{names_step, names_new, places_step, within, first_of, second_of}
+use Rattle.wasi_host.specs.laws.Tasks.{GuestsStand}
+use Rattle.wasi_host.specs.laws.Steps.{names_step, guests_step, names_new, guests_new, places_step, within, first_of, second_of}
 
 -- a host's guests by their numbers
 abbrev pub guests_of : List (Option Guest) → ℕ → Option Guest
@@ -178,8 +179,9 @@ step_on input (line.Guest n reads) host told at fits =
 step_on input (line.Configure n it) host told at fits = configured_on input n it host told at (guests_of host.guests n) refl fits
 step_on input (line.Call n c) host told at fits =
     let done = answer the_rules c n host in
-    let next = call_next_in (guests_of host.guests n) input n c host told at refl fits in
-    let below : n < length host.guests = within host.guests n fits in
+    let there : is_some (guests_of host.guests n) ≡ true = first_of _ (call_stands (names_of host) n c) fits in
+    let next = call_next_in (guests_of host.guests n) input n c host told at refl there in
+    let below : n < length host.guests = within host.guests n there in
     let put = guests_set host.guests n done.guest below in
     record {
       next = record {
@@ -193,6 +195,7 @@ step_on input (line.Call n c) host told at fits =
       front_is = next.front_is;
       rule = subst (λ guests. EndedRule (ended_in (guests_of host.guests n)) c input (shown at.front host.shared (guests_of host.guests) at.live told) n done.reply (shown next.front' done.shared guests next.live' told)) (sym put) next.rule;
     }
+step_on input (line.Turn it) host told at fits = record { next = record { front = at.front; live = at.live; input_is = at.input_is; sound = at.sound; owned = at.owned; places = at.places }; front_is = sym (append-nil at.front); rule = refl }
 step_on input (line.Worker it) host told at fits =
     let next = worker_on input it host told at in
     record {
@@ -209,12 +212,13 @@ pub record Ran (input : List ℕ) (steps : List Line) (host : Host) (told : Told
   pub front_is : last.front ≡ at.front ++ bytes
   pub names : names_of (host_end steps host told) ≡ names_end (names_of host) steps
 
-pub run_on : (input : List ℕ) (steps : List Line) (host : Host) (told : Told) (at : At input host told) → AllStand (names_of host) steps → Ran input steps host told at
-run_on input [] host told at stand = record { last = at; bytes = []; run = (refl, refl); front_is = sym (append-nil at.front); names = refl }
-run_on input (step ∷ steps) host told at stand =
+pub run_on : (input : List ℕ) (steps : List Line) (host : Host) (told : Told) (at : At input host told) → GuestsStand host → AllStand (names_of host) steps → Ran input steps host told at
+run_on input [] host told at guests stand = record { last = at; bytes = []; run = (refl, refl); front_is = sym (append-nil at.front); names = refl }
+run_on input (step ∷ steps) host told at guests stand =
     let on = step_on input step host told at stand.0 in
-    let named = names_step step host (given_for (size_read step host) told) at.places stand.0 in
-    let rest = run_on input steps (step_host step host told) (step_told step host told) on.next (rw named stand.1) in
+    let named = names_step step host (given_for (size_read step host) told) at.places guests stand.0 in
+    let next = guests_step step host (given_for (size_read step host) told) at.places guests stand.0 in
+    let rest = run_on input steps (step_host step host told) (step_told step host told) on.next next (rw named stand.1) in
     let first = step_bytes input (sharing input host told at) step (step_reply step host told) in
     record {
       last = rest.last;
@@ -257,7 +261,7 @@ rest_is input front held left is = rw (is, drop-append-add front (held ++ left) 
 -- the headline
 pub headline : (steps : List Line) (told : Told) → AllStand no_names steps → ShowsRun steps told (told_after_run steps told) (transcript steps told)
 headline steps told stand =
-    let ran = run_on told.left steps new_host told (at_new told) (rw names_new stand) in
+    let ran = run_on told.left steps new_host told (at_new told) guests_new (rw names_new stand) in
     let at = ran.last in
     let end = host_end steps new_host told in
     let held = take (length at.front + length end.shared.held - length at.front) (drop (length at.front) told.left) in

@@ -28,6 +28,7 @@ use Rattle.wasi_script.specs.declared.lines.Setting.TheVariants as setting
 use Rattle.wasi_script.specs.declared.lines.EntryCall.{EntryCall}
 use Rattle.wasi_script.specs.declared.lines.Call.{Call}
 use Rattle.wasi_script.specs.declared.lines.Call.TheVariants as call
+use Rattle.wasi_script.specs.declared.lines.StreamTask.TheVariants as task
 use Rattle.wasi_script.specs.declared.lines.Line.{Line}
 use Rattle.wasi_script.specs.declared.lines.Line.TheVariants as line
 use Rattle.wasi_reply.specs.declared.reply.Told.{Told as Answer}
@@ -299,6 +300,8 @@ module _ (rules : Rules) (mine : List ℕ → Bool) (g : ℕ) where
   unseen (line.Call k c) host given fits e =
       let done = answer rules c k host in
       elsewhere host k (Some done.guest) done.shared done.streams e (in_other c k (guest_of host k) host.shared host.streams e (fits k))
+  unseen (line.Turn (task.Reader name)) host given fits e = record { guest = refl; places = refl; streams = put_input_other (input.Named name) (rules.read_ahead (input_at (input.Named name) host.streams)).left host.streams e }
+  unseen (line.Turn (task.Writer name)) host given fits e = record { guest = refl; places = refl; streams = put_output_other (output.Named name) (rules.written_behind (output_at (output.Named name) host.streams)).left host.streams e }
   unseen (line.Worker it) host given fits e = record { guest = refl; places = refl; streams = same_refl host.streams }
 
   -- ---- a call of the guest
@@ -394,6 +397,18 @@ module _ (rules : Rules) (mine : List ℕ → Bool) (g : ℕ) where
         reply = told.reply ∙ ap (λ (it : Answered). it.reply) same;
         alike = puts one two k (Some done.guest) (Some there.guest) done.shared there.shared done.streams there.streams (ap Some (told.guest ∙ ap (λ (it : Answered). it.guest) same))
             (record { inputs = told.streams.inputs ∙ ap (λ (it : Answered). kept mine it.streams.inputs) same; outputs = told.streams.outputs ∙ ap (λ (it : Answered). kept mine it.streams.outputs) same }) alike;
+      }
+  seen (line.Turn (task.Reader name)) one two given given' fits alike e =
+      let stream = input_same (input.Named name) one.streams two.streams e alike.streams in
+      record {
+        reply = ap (λ stream. reply.Worked (rules.read_ahead stream).told) stream;
+        alike = record { guest = alike.guest; places = alike.places; streams = put_input_same (input.Named name) (rules.read_ahead (input_at (input.Named name) one.streams)).left (rules.read_ahead (input_at (input.Named name) two.streams)).left one.streams two.streams e (ap (λ stream. (rules.read_ahead stream).left) stream) alike.streams };
+      }
+  seen (line.Turn (task.Writer name)) one two given given' fits alike e =
+      let stream = output_same (output.Named name) one.streams two.streams e alike.streams in
+      record {
+        reply = ap (λ stream. reply.Worked (rules.written_behind stream).told) stream;
+        alike = record { guest = alike.guest; places = alike.places; streams = put_output_same (output.Named name) (rules.written_behind (output_at (output.Named name) one.streams)).left (rules.written_behind (output_at (output.Named name) two.streams)).left one.streams two.streams e (ap (λ stream. (rules.written_behind stream).left) stream) alike.streams };
       }
   seen (line.Worker it) one two given given' fits alike e = absurd (true≢false (sym e))
 
@@ -533,6 +548,7 @@ module _ (mine : List ℕ → Bool) (g : ℕ) where
   line_named (line.Output name it) own other unshared = tt
   line_named (line.Call k it) own other unshared = tt
   line_named (line.Worker it) own other unshared = tt
+  line_named (line.Turn it) own other unshared = tt
 
   lines_named : (steps : List Line) → ((name : List ℕ) → names_by (is_guest g) steps name ≡ true → mine name ≡ true) → ((name : List ℕ) → names_by (is_other g) steps name ≡ true → mine name ≡ false) → list_any (shares g) steps ≡ false → LinesApart mine g steps
   lines_named [] own other unshared = tt
@@ -549,6 +565,7 @@ module _ (mine : List ℕ → Bool) (g : ℕ) where
   unseen_names (line.Output n it) name e = refl
   unseen_names (line.Call k it) name e = refl
   unseen_names (line.Worker it) name e = refl
+  unseen_names (line.Turn it) name e = refl
 
   names_seen : (steps : List Line) (name : List ℕ) → names_by (is_guest g) (filter (is_seen mine g) steps) name ≡ names_by (is_guest g) steps name
   names_seen [] name = refl

@@ -19,16 +19,16 @@ use Rattle.wasi_host.specs.declared.entry.StreamEntry.{StreamEntry}
 use Rattle.wasi_host.specs.declared.entry.StreamEntry.TheVariants as at
 use Rattle.wasi_host.specs.declared.stream.OutStream.{OutStream}
 use Rattle.wasi_host.specs.declared.stream.OutStream.TheVariants as stream
-use Rattle.wasi_host.specs.OutStreams.{taken_of, after_output_write, after_output_flush, after_output_poll_write, output_write, output_poll_write}
+use Rattle.wasi_host.specs.OutStreams.{taken_of, after_output_check_write, after_output_write, after_output_flush, after_output_poll_write, after_output_poll_flush, output_write, output_poll_write}
 use Rattle.wasi_host.specs.Deeds.{Own, act, apart}
 use Rattle.wasi_host.specs.Calls.{Owner, sent, result_told, poll_told, is_done}
-use Rattle.wasi_host.specs.Promises.{Took, is_declared, Keeps}
+use Rattle.wasi_host.specs.Promises.{Took, is_direct, Keeps}
 
 -- ---- a pipe
 take_within : (room : ℕ) (bytes : List ℕ) → take room bytes ≡ take (min (length bytes) room) bytes
 take_within room bytes = grind (arith, common_steps)
 
-pipe_write : (pipe : OutPipe) (bytes : List ℕ) (past : Bool) → (is_declared (stream.Pipe (if past then pipe else with_bytes pipe bytes)) ≡ true) × Took (result_told is_done (if past then Err (failure.Trap WriteBeyondCapacity) else Ok tt)) bytes pipe.contents (taken_of (stream.Pipe (if past then pipe else with_bytes pipe bytes)))
+pipe_write : (pipe : OutPipe) (bytes : List ℕ) (past : Bool) → (is_direct (stream.Pipe (if past then pipe else with_bytes pipe bytes)) ≡ true) × Took (result_told is_done (if past then Err (failure.Trap WriteBeyondCapacity) else Ok tt)) bytes pipe.contents (taken_of (stream.Pipe (if past then pipe else with_bytes pipe bytes)))
 pipe_write pipe bytes true = (refl, refl)
 pipe_write pipe bytes false = (refl, refl)
 
@@ -58,47 +58,62 @@ part_took (Err kind) piece before = (0, sym (append-nil before))
 
 -- ---- a write, a polled write and a flush of a declared output
 record KeptBy (bytes : List ℕ) (s left : OutStream) (answer : Told) : Type 0 where
-  declared : is_declared left ≡ true
+  direct : is_direct left ≡ true
   took : Took answer bytes (taken_of s) (taken_of left)
 
 stdio_write : (out : Outlet) (bytes : List ℕ) (past : Bool) → KeptBy bytes (stream.Stdio out) (stream.Stdio (if past then out else after_all_written out bytes)) (result_told is_done (if past then Err (failure.Trap WriteExceededBudget) else write_answer stream_error_of (all_written out bytes)))
-stdio_write out bytes true = record { declared = refl; took = refl }
-stdio_write out bytes false = record { declared = refl; took = stdio_took (all_written out bytes) bytes out.taken }
+stdio_write out bytes true = record { direct = refl; took = refl }
+stdio_write out bytes false = record { direct = refl; took = stdio_took (all_written out bytes) bytes out.taken }
 
-write_keeps : (bytes : List ℕ) (s : OutStream) → is_declared s ≡ true → KeptBy bytes s (after_output_write s bytes) (result_told is_done (output_write s bytes))
-write_keeps bytes (stream.Pipe pipe) is = let kept = pipe_write pipe bytes (nat_lt pipe.room (length bytes)) in record { declared = kept.0; took = kept.1 }
-write_keeps bytes (stream.File out) is = record { declared = refl; took = file_took (all_written out bytes) bytes out.taken }
+write_keeps : (bytes : List ℕ) (s : OutStream) → is_direct s ≡ true → KeptBy bytes s (after_output_write s bytes) (result_told is_done (output_write s bytes))
+write_keeps bytes (stream.Pipe pipe) is = let kept = pipe_write pipe bytes (nat_lt pipe.room (length bytes)) in record { direct = kept.0; took = kept.1 }
+write_keeps bytes (stream.File out) is = record { direct = refl; took = file_took (all_written out bytes) bytes out.taken }
 write_keeps bytes (stream.Stdio out) is = stdio_write out bytes (nat_lt 65536 (length bytes))
 write_keeps bytes stream.Closed is = absurd (true≢false (sym is))
 write_keeps bytes stream.Sink is = absurd (true≢false (sym is))
+write_keeps bytes (stream.Buffered writer) is = absurd (true≢false (sym is))
 
 stdio_poll_write : (piece : List ℕ) (out : Outlet) → KeptBy piece (stream.Stdio out) (after_output_poll_write (stream.Stdio out) piece) (poll_told told.Count (output_poll_write (stream.Stdio out) piece))
-stdio_poll_write [] out = record { declared = refl; took = sym (append-nil out.taken) }
-stdio_poll_write (b ∷ piece) out = record { declared = refl; took = part_took (part_written out (b ∷ piece)) (b ∷ piece) out.taken }
+stdio_poll_write [] out = record { direct = refl; took = sym (append-nil out.taken) }
+stdio_poll_write (b ∷ piece) out = record { direct = refl; took = part_took (part_written out (b ∷ piece)) (b ∷ piece) out.taken }
 
-poll_write_keeps : (piece : List ℕ) (s : OutStream) → is_declared s ≡ true → KeptBy piece s (after_output_poll_write s piece) (poll_told told.Count (output_poll_write s piece))
-poll_write_keeps piece (stream.Pipe pipe) is = record { declared = refl; took = ap (λ part. pipe.contents ++ part) (take_within pipe.room piece) }
-poll_write_keeps piece (stream.File out) is = record { declared = refl; took = file_poll_took (all_written out piece) piece out.taken }
+poll_write_keeps : (piece : List ℕ) (s : OutStream) → is_direct s ≡ true → KeptBy piece s (after_output_poll_write s piece) (poll_told told.Count (output_poll_write s piece))
+poll_write_keeps piece (stream.Pipe pipe) is = record { direct = refl; took = ap (λ part. pipe.contents ++ part) (take_within pipe.room piece) }
+poll_write_keeps piece (stream.File out) is = record { direct = refl; took = file_poll_took (all_written out piece) piece out.taken }
 poll_write_keeps piece (stream.Stdio out) is = stdio_poll_write piece out
 poll_write_keeps piece stream.Closed is = absurd (true≢false (sym is))
 poll_write_keeps piece stream.Sink is = absurd (true≢false (sym is))
+poll_write_keeps piece (stream.Buffered writer) is = absurd (true≢false (sym is))
 
-flush_declared : (s : OutStream) → is_declared s ≡ true → is_declared (after_output_flush s) ≡ true
-flush_declared (stream.File out) is = refl
-flush_declared (stream.Stdio out) is = refl
-flush_declared other is = is
+flush_direct : (s : OutStream) → is_direct s ≡ true → is_direct (after_output_flush s) ≡ true
+flush_direct (stream.File out) is = refl
+flush_direct (stream.Stdio out) is = refl
+flush_direct (stream.Buffered writer) is = absurd (true≢false (sym is))
+flush_direct other is = is
 
-flush_took : (s : OutStream) → taken_of (after_output_flush s) ≡ taken_of s
-flush_took (stream.File out) = refl
-flush_took (stream.Stdio out) = refl
-flush_took other = refl
+flush_took : (s : OutStream) → is_direct s ≡ true → taken_of (after_output_flush s) ≡ taken_of s
+flush_took (stream.File out) is = refl
+flush_took (stream.Stdio out) is = refl
+flush_took (stream.Buffered writer) is = absurd (true≢false (sym is))
+flush_took other is = refl
 
-pub outputs_keep : (it : EntryCall) (to : Standard) (owner : Owner) (entry : StreamEntry) (s : OutStream) (own : Own) → is_declared s ≡ true → let done = sent it to owner entry s in Keeps it entry s done.left (act (apart done.deed) own).reply
-outputs_keep (on.Write bytes) to owner at.Plain s own is = let kept = write_keeps bytes s is in record { declared = kept.declared; took = (result_told is_done (output_write s bytes), refl, kept.took) }
-outputs_keep (on.PollWrite bytes) to owner at.Polled s own is = let kept = poll_write_keeps bytes s is in record { declared = kept.declared; took = (poll_told told.Count (output_poll_write s bytes), refl, kept.took) }
-outputs_keep on.Flush to owner at.Plain s own is = record { declared = flush_declared s is; took = flush_took s }
-outputs_keep on.PollFlush to owner at.Polled s own is = record { declared = flush_declared s is; took = flush_took s }
-outputs_keep on.Ready to owner at.Pollable s own is = record { declared = is; took = refl }
-outputs_keep other to owner at.Plain s own is = record { declared = is; took = refl }
-outputs_keep other to owner at.Polled s own is = record { declared = is; took = refl }
-outputs_keep other to owner at.Pollable s own is = record { declared = is; took = refl }
+poll_flush_keeps : (s : OutStream) → is_direct s ≡ true → (is_direct (after_output_poll_flush s) ≡ true) × (taken_of (after_output_poll_flush s) ≡ taken_of s)
+poll_flush_keeps (stream.Buffered writer) is = absurd (true≢false (sym is))
+poll_flush_keeps (stream.File out) is = (refl, refl)
+poll_flush_keeps (stream.Stdio out) is = (refl, refl)
+poll_flush_keeps other is = (is, refl)
+
+check_keeps : (s : OutStream) → is_direct s ≡ true → (is_direct (after_output_check_write s) ≡ true) × (taken_of (after_output_check_write s) ≡ taken_of s)
+check_keeps (stream.Buffered writer) is = absurd (true≢false (sym is))
+check_keeps other is = (is, refl)
+
+pub outputs_keep : (it : EntryCall) (to : Standard) (owner : Owner) (entry : StreamEntry) (s : OutStream) (own : Own) → is_direct s ≡ true → let done = sent it to owner entry s in Keeps it entry s done.left (act (apart done.deed) own).reply
+outputs_keep (on.Write bytes) to owner at.Plain s own is = let kept = write_keeps bytes s is in record { direct = kept.direct; took = (result_told is_done (output_write s bytes), refl, kept.took) }
+outputs_keep (on.PollWrite bytes) to owner at.Polled s own is = let kept = poll_write_keeps bytes s is in record { direct = kept.direct; took = (poll_told told.Count (output_poll_write s bytes), refl, kept.took) }
+outputs_keep on.Flush to owner at.Plain s own is = record { direct = flush_direct s is; took = flush_took s is }
+outputs_keep on.PollFlush to owner at.Polled s own is = let kept = poll_flush_keeps s is in record { direct = kept.0; took = kept.1 }
+outputs_keep on.CheckWrite to owner at.Plain s own is = let kept = check_keeps s is in record { direct = kept.0; took = kept.1 }
+outputs_keep on.Ready to owner at.Pollable s own is = record { direct = is; took = refl }
+outputs_keep other to owner at.Plain s own is = record { direct = is; took = refl }
+outputs_keep other to owner at.Polled s own is = record { direct = is; took = refl }
+outputs_keep other to owner at.Pollable s own is = record { direct = is; took = refl }

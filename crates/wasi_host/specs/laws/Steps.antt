@@ -1,8 +1,8 @@
 -- What steps come to: over a source that tells, what they declare, and how often they deliver.
-use Rattle.std.proofs.Common.{◌≡◌, ℕ, ◌+◌, ◌<◌, ◌≤◌, zero, suc, Bool, true, false, List, [], ◌∷◌, ◌++◌, length, get_or, set, drop, cond, Option, Some, None, refl, ap, arith, ◌∙◌, subst, add-one}
+use Rattle.std.proofs.Common.{◌≡◌, ℕ, ◌+◌, ◌<◌, ◌≤◌, zero, suc, Bool, true, false, List, [], ◌∷◌, ◌++◌, length, get_or, set, drop, cond, Option, Some, None, refl, ap, arith, ◌∙◌, sym, subst, add-one}
 use Rattle.std.specs.Str.{bytes_eq}
 use Rattle.std.specs.Map.{set_value}
-use Rattle.std.specs.Prelude.{MatchOption, is_some, ◌&&◌, nat_eq, replicate}
+use Rattle.std.specs.Prelude.{MatchOption, is_some, ◌&&◌, not, nat_eq, replicate}
 use Rattle.std.specs.Option.{option_map}
 use Rattle.std.proofs.lemmas.Bool.Decides.{nat_tests}
 use Rattle.std.proofs.Math.ListN.{length-set}
@@ -15,6 +15,7 @@ use Rattle.wasi_script.specs.declared.lines.Input.{Input}
 use Rattle.wasi_script.specs.declared.lines.Input.TheVariants as input
 use Rattle.wasi_script.specs.declared.lines.Output.{Output}
 use Rattle.wasi_script.specs.declared.lines.Output.TheVariants as output
+use Rattle.wasi_script.specs.declared.lines.Standard.{Standard}
 use Rattle.wasi_script.specs.declared.lines.Standard.TheVariants as standard
 use Rattle.wasi_script.specs.declared.lines.Setting.{Setting}
 use Rattle.wasi_script.specs.declared.lines.Setting.TheVariants as setting
@@ -23,9 +24,12 @@ use Rattle.wasi_script.specs.declared.lines.EntryCall.TheVariants as ask
 use Rattle.wasi_script.specs.declared.lines.Call.{Call}
 use Rattle.wasi_script.specs.declared.lines.Call.TheVariants as call
 use Rattle.wasi_script.specs.declared.lines.WorkerTurn.TheVariants as turn
+use Rattle.wasi_script.specs.declared.lines.StreamTask.{StreamTask}
+use Rattle.wasi_script.specs.declared.lines.StreamTask.TheVariants as task
 use Rattle.wasi_script.specs.declared.lines.Line.{Line}
 use Rattle.wasi_script.specs.declared.lines.Line.TheVariants as line
-use Rattle.wasi_script.specs.Grammar.{AllStand, may_stand, names_after, no_names, setting_stands}
+use Rattle.wasi_script.specs.Grammar.{Names, AllStand, may_stand, may_declare, budget_stands, call_stands, input_stands, input_has_task, output_has_task, with_task, tasks_after, names_after, no_names, setting_stands}
+use Rattle.wasi_script.specs.laws.Distinct.{is_new, first_is}
 use Rattle.wasi_reply.specs.declared.reply.Reply.{Reply}
 use Rattle.wasi_reply.specs.declared.reply.Reply.TheVariants as reply
 use Rattle.wasi_host.specs.declared.entry.Entry.{Entry}
@@ -36,8 +40,9 @@ use Rattle.wasi_host.specs.declared.stream.InStream.{InStream}
 use Rattle.wasi_host.specs.declared.stream.OutStream.{OutStream}
 use Rattle.wasi_host.specs.Deeds.{entry_at}
 use Rattle.wasi_host.specs.Calls.{Owner, asked}
-use Rattle.wasi_host.specs.Host.{Named, the_rules, Rules, Guest, Streams, configured, put_input, put_output, new_input, new_output, Host, IsStep, new_guest, answer_at, answer_to, answer_by, answer_in, answer, guest_of, was_called_in, names_in, names_of, host_after, step_reply, step_host, step_told, delivery_told, after_delivery, given_for, told_for, new_host}
+use Rattle.wasi_host.specs.Host.{Named, the_rules, Rules, Guest, Streams, configured, put_input, put_output, new_input, new_output, Host, IsStep, new_guest, answer_at, answer_to, answer_by, answer_in, answer, guest_of, was_called_in, names_in, reads_ahead_in, writes_behind_in, task_of, names_of, after_task, host_after, step_reply, step_host, step_told, delivery_told, after_delivery, given_for, told_for, new_host}
 use Rattle.wasi_host.specs.laws.Shown.{cond_same, get_set}
+use Rattle.wasi_host.specs.laws.Tasks.{call_kinds, turn_kinds, kinds_tasks, call_settings, called_task, NamesStand, GuestStands, GuestsStand, same_settings, stand_after, new_stands, configured_stands, input_tasks, output_tasks, readers_more, writers_more}
 
 -- over a source that tells, a step is a function of what it tells
 pub record IsToldStep (u : Told) (after : Option Told) (old new : Host) (step : Line) (answer : Reply) : Type 0 where
@@ -165,36 +170,142 @@ called_now : (rules : Rules) (c : Call) (g : ℕ) (o : Option Guest) (s : Shared
 called_now rules c g None s streams h = absurd (cc)
 called_now rules c g (Some guest) s streams h = by_called rules guest.ended c g guest s streams
 
+task_names : (rules : Rules) (it : StreamTask) (streams : Streams) → SameNames (after_task rules it streams) streams
+task_names rules (task.Reader name) streams = put_input_names (input.Named name) _ streams
+task_names rules (task.Writer name) streams = put_output_names (output.Named name) _ streams
+
+-- ---- which of a guest's streams have a task, once it is declared or more is said of it
+no_task : (streams : Streams) (stream : Standard) (o : Option Guest) → is_some o ≡ false → task_of streams stream o ≡ false
+no_task streams stream None h = refl
+no_task streams stream (Some guest) h = absurd (cc)
+
+new_task : (old : Host) (n : ℕ) (reads : Input) → n < length old.guests → is_some (get_or old.guests n None) ≡ false → (stream : Standard) (m : ℕ) → task_of old.streams stream (get_or (set old.guests n (Some (new_guest reads))) m None) ≡ with_task standard.Input n (input_has_task (reads_ahead_in old.streams) reads) (names_of old).has_task stream m
+new_task old n reads lt new standard.Input m = told_at (task_of old.streams standard.Input) old.guests n m (Some (new_guest reads)) lt
+new_task old n reads lt new standard.Output m = told_same (task_of old.streams standard.Output) old.guests n m (Some (new_guest reads)) lt (no_task old.streams standard.Output (get_or old.guests n None) new)
+new_task old n reads lt new standard.Error m = told_same (task_of old.streams standard.Error) old.guests n m (Some (new_guest reads)) lt (no_task old.streams standard.Error (get_or old.guests n None) new)
+
+set_stdout : (streams : Streams) (to : Output) (o : Option Guest) → is_some o ≡ true → task_of streams standard.Output (option_map (configured (setting.Stdout to)) o) ≡ output_has_task (writes_behind_in streams) to
+set_stdout streams to None there = absurd (cc)
+set_stdout streams to (Some guest) there = refl
+
+set_stderr : (streams : Streams) (to : Output) (o : Option Guest) → is_some o ≡ true → task_of streams standard.Error (option_map (configured (setting.Stderr to)) o) ≡ output_has_task (writes_behind_in streams) to
+set_stderr streams to None there = absurd (cc)
+set_stderr streams to (Some guest) there = refl
+
+set_other : (streams : Streams) (it : Setting) (stream : Standard) → ((guest : Guest) → task_of streams stream (Some guest) ≡ task_of streams stream (Some (configured it guest))) → (o : Option Guest) → task_of streams stream o ≡ task_of streams stream (option_map (configured it) o)
+set_other streams it stream same None = refl
+set_other streams it stream same (Some guest) = same guest
+
+module _ (old : Host) (n : ℕ) (lt : n < length old.guests) (there : is_some (get_or old.guests n None) ≡ true) where
+  abbrev set_guest : Setting → Option Guest
+  set_guest it = option_map (configured it) (get_or old.guests n None)
+
+  kept_task : (it : Setting) (stream : Standard) → ((guest : Guest) → task_of old.streams stream (Some guest) ≡ task_of old.streams stream (Some (configured it guest))) → (m : ℕ) → task_of old.streams stream (get_or (set old.guests n (set_guest it)) m None) ≡ (names_of old).has_task stream m
+  kept_task it stream same m = told_same (task_of old.streams stream) old.guests n m (set_guest it) lt (set_other old.streams it stream same (get_or old.guests n None))
+
+  configured_task : (it : Setting) (stream : Standard) (m : ℕ) → task_of old.streams stream (get_or (set old.guests n (set_guest it)) m None) ≡ tasks_after (names_of old) n it stream m
+  configured_task (setting.Stdout to) standard.Input m = kept_task (setting.Stdout to) standard.Input (λ guest. refl) m
+  configured_task (setting.Stdout to) standard.Output m = told_at (task_of old.streams standard.Output) old.guests n m (set_guest (setting.Stdout to)) lt ∙ ap (λ b. cond (nat_eq m n) b (task_of old.streams standard.Output (get_or old.guests m None))) (set_stdout old.streams to (get_or old.guests n None) there)
+  configured_task (setting.Stdout to) standard.Error m = kept_task (setting.Stdout to) standard.Error (λ guest. refl) m
+  configured_task (setting.Stderr to) standard.Input m = kept_task (setting.Stderr to) standard.Input (λ guest. refl) m
+  configured_task (setting.Stderr to) standard.Output m = kept_task (setting.Stderr to) standard.Output (λ guest. refl) m
+  configured_task (setting.Stderr to) standard.Error m = told_at (task_of old.streams standard.Error) old.guests n m (set_guest (setting.Stderr to)) lt ∙ ap (λ b. cond (nat_eq m n) b (task_of old.streams standard.Error (get_or old.guests m None))) (set_stderr old.streams to (get_or old.guests n None) there)
+  configured_task (setting.Capacity capacity) standard.Input m = kept_task (setting.Capacity capacity) standard.Input (λ guest. refl) m
+  configured_task (setting.Capacity capacity) standard.Output m = kept_task (setting.Capacity capacity) standard.Output (λ guest. refl) m
+  configured_task (setting.Capacity capacity) standard.Error m = kept_task (setting.Capacity capacity) standard.Error (λ guest. refl) m
+
 -- what a step declares, and whose call it is
-pub names_step : (step : Line) (old : Host) (g : Given) → length old.guests ≡ 64 → may_stand (names_of old) step ≡ true → names_of (host_after step old g) ≡ names_after (names_of old) step
-names_step (line.Input name it) old g len h = λ i. record (names_of old) { inputs = more_names old.streams.inputs name (new_input it) i }
-names_step (line.Output name it) old g len h = λ i. record (names_of old) { outputs = more_names old.streams.outputs name (new_output it) i }
-names_step (line.Guest n reads) old g len h =
+pub names_step : (step : Line) (old : Host) (g : Given) → length old.guests ≡ 64 → GuestsStand old → may_stand (names_of old) step ≡ true → names_of (host_after step old g) ≡ names_after (names_of old) step
+names_step (line.Input name it) old g len guests h =
+    let new = is_new _ _ _ h in
+    λ i. record (names_of old) {
+      has_task = λ stream m. input_tasks old name (new_input it) stream (guest_of old m) (guests m) i;
+      inputs = more_names old.streams.inputs name (new_input it) i;
+      reads_ahead = λ other. readers_more old.streams.inputs name it new.0 other i;
+    }
+names_step (line.Output name it) old g len guests h =
+    let new = is_new _ _ _ (first_is (may_declare (names_of old) name) (budget_stands it) h) in
+    λ i. record (names_of old) {
+      has_task = λ stream m. output_tasks old name (new_output it) stream (guest_of old m) (guests m) i;
+      outputs = more_names old.streams.outputs name (new_output it) i;
+      writes_behind = λ other. writers_more old.streams.outputs name it new.1 other i;
+    }
+names_step (line.Guest n reads) old g len guests h =
     let lt : n < length old.guests = rw len (grind (arith, nat_tests, h)) in
     let new : is_some (get_or old.guests n None) ≡ false = grind (arith, nat_tests, h) in
     λ i. record (names_of old) {
       is_guest = λ m. told_at is_some old.guests n m (Some (new_guest reads)) lt i;
       was_called = λ m. told_same was_called_in old.guests n m (Some (new_guest reads)) lt (none_called (get_or old.guests n None) new) i;
+      has_task = λ stream m. new_task old n reads lt new stream m i;
     }
-names_step (line.Configure n it) old g len h =
+names_step (line.Configure n it) old g len guests h =
     let there : is_some (guest_of old n) ≡ true = first_of _ _ (first_of _ (setting_stands (names_of old) it) h) in
     let lt : n < length old.guests = within old.guests n there in
     let changed : Option Guest = option_map (configured it) (get_or old.guests n None) in
     λ i. record (names_of old) {
       is_guest = λ m. told_same is_some old.guests n m changed lt (changed_some (configured it) (get_or old.guests n None)) i;
       was_called = λ m. told_same was_called_in old.guests n m changed lt (changed_called it (get_or old.guests n None)) i;
+      has_task = λ stream m. configured_task old n lt there it stream m i;
     }
-names_step (line.Call n c) old g len h =
+names_step (line.Call n c) old g len guests h' =
+    let h : is_some (guest_of old n) ≡ true = first_of _ (call_stands (names_of old) n c) h' in
     let lt : n < length old.guests = within old.guests n h in
     let guest : Guest = (answer the_rules c n old).guest in
     let names = answered_names the_rules c n (guest_of old n) old.shared old.streams in
+    let kinds = call_kinds c n (guest_of old n) old.shared old.streams in
+    let streams : Streams = (answer the_rules c n old).streams in
     λ i. record {
       is_guest = λ m. told_same is_some old.guests n m (Some guest) lt h i;
       was_called = λ m. (told_at was_called_in old.guests n m (Some guest) lt ∙ ap (λ b. cond (nat_eq m n) b (was_called_in (get_or old.guests m None))) (called_now the_rules c n (guest_of old n) old.shared old.streams h)) i;
+      has_task = λ stream m. (kinds_tasks streams old.streams kinds stream (get_or (set old.guests n (Some guest)) m None)
+          ∙ told_same (task_of old.streams stream) old.guests n m (Some guest) lt (sym (called_task old.streams old.streams stream c n (guest_of old n) old.shared h))) i;
       inputs = names.inputs i;
       outputs = names.outputs i;
+      reads_ahead = λ name. kinds.reads name i;
+      writes_behind = λ name. kinds.writes name i;
     }
-names_step (line.Worker it) old g len h = refl
+names_step (line.Worker it) old g len guests h = refl
+names_step (line.Turn it) old g len guests h =
+    let names = task_names the_rules it old.streams in
+    let kinds = turn_kinds it old.streams in
+    λ i. record (names_of old) {
+      has_task = λ stream m. kinds_tasks (after_task the_rules it old.streams) old.streams kinds stream (guest_of old m) i;
+      inputs = names.inputs i;
+      outputs = names.outputs i;
+      reads_ahead = λ name. kinds.reads name i;
+      writes_behind = λ name. kinds.writes name i;
+    }
+
+-- what guests name stays declared
+put_stands : (names : Names) (xs : List (Option Guest)) (n : ℕ) (x : Option Guest) → n < length xs → ((m : ℕ) → GuestStands names (get_or xs m None)) → GuestStands names x → (m : ℕ) → GuestStands names (get_or (set xs n x) m None)
+put_stands names xs n x lt all new m = subst (GuestStands names) (sym (get_set xs n m x None lt)) (by (nat_eq m n))
+  where
+    by : (b : Bool) → GuestStands names (cond b x (get_or xs m None))
+    by true = new
+    by false = all m
+
+called_stands : (names : Names) (rules : Rules) (c : Call) (g : ℕ) (o : Option Guest) (s : Shared) (streams : Streams) → is_some o ≡ true → GuestStands names o → NamesStand names (answer_in rules c g o s streams).guest
+called_stands names rules c g None s streams there stand = absurd (cc)
+called_stands names rules c g (Some guest) s streams there stand = same_settings names (answer_in rules c g (Some guest) s streams).guest guest (call_settings rules guest.ended c g guest s streams) stand
+
+guests_after : (step : Line) (old : Host) (g : Given) → length old.guests ≡ 64 → GuestsStand old → may_stand (names_of old) step ≡ true → (m : ℕ) → GuestStands (names_after (names_of old) step) (guest_of (host_after step old g) m)
+guests_after (line.Guest n reads) old g len guests h m =
+    let lt : n < length old.guests = rw len (grind (arith, nat_tests, h)) in
+    let names = names_of old in
+    let stands = second_of _ (input_stands names reads) (second_of _ (not (names.is_guest n) && input_stands names reads) h) in
+    put_stands (names_after names (line.Guest n reads)) old.guests n (Some (new_guest reads)) lt (λ m. stand_after names (line.Guest n reads) (guest_of old m) (guests m)) (new_stands names (line.Guest n reads) reads stands) m
+guests_after (line.Configure n it) old g len guests h m =
+    let names = names_of old in
+    let there : is_some (guest_of old n) ≡ true = first_of _ _ (first_of _ (setting_stands names it) h) in
+    put_stands (names_after names (line.Configure n it)) old.guests n (option_map (configured it) (guest_of old n)) (within old.guests n there) (λ m. stand_after names (line.Configure n it) (guest_of old m) (guests m)) (configured_stands names (line.Configure n it) it (guest_of old n) (second_of _ (setting_stands names it) h) (guests n)) m
+guests_after (line.Call n c) old g len guests h m =
+    let names = names_of old in
+    let there : is_some (guest_of old n) ≡ true = first_of _ (call_stands names n c) h in
+    put_stands (names_after names (line.Call n c)) old.guests n (Some (answer the_rules c n old).guest) (within old.guests n there) (λ m. stand_after names (line.Call n c) (guest_of old m) (guests m)) (called_stands (names_after names (line.Call n c)) the_rules c n (guest_of old n) old.shared old.streams there (stand_after names (line.Call n c) (guest_of old n) (guests n))) m
+guests_after step old g len guests h m = stand_after (names_of old) step (guest_of old m) (guests m)
+
+pub guests_step : (step : Line) (old : Host) (g : Given) → length old.guests ≡ 64 → GuestsStand old → may_stand (names_of old) step ≡ true → GuestsStand (host_after step old g)
+guests_step step old g len guests h m = subst (λ names. GuestStands names (guest_of (host_after step old g) m)) (sym (names_step step old g len guests h)) (guests_after step old g len guests h m)
 
 -- nobody is declared at first
 none_at : (f : Option Guest → Bool) → f None ≡ false → (count n : ℕ) → let none : Option Guest = None in f (get_or (replicate count None) n none) ≡ false
@@ -203,7 +314,15 @@ none_at f none (suc count) zero = none
 none_at f none (suc count) (suc n) = none_at f none count n
 
 pub names_new : names_of new_host ≡ no_names
-names_new = λ i. record { is_guest = λ n. none_at is_some refl 64 n i; was_called = λ n. none_at was_called_in refl 64 n i; inputs = []; outputs = [] }
+names_new = λ i. record (names_of new_host) { is_guest = λ n. none_at is_some refl 64 n i; was_called = λ n. none_at was_called_in refl 64 n i; has_task = λ stream n. none_at (task_of new_host.streams stream) refl 64 n i }
+
+pub guests_new : GuestsStand new_host
+guests_new = none_stand (names_of new_host) 64
+  where
+    none_stand : (names : Names) (count n : ℕ) → let none : Option Guest = None in GuestStands names (get_or (replicate count none) n none)
+    none_stand names zero n = tt
+    none_stand names (suc count) zero = tt
+    none_stand names (suc count) (suc n) = none_stand names count n
 
 -- no step makes or drops a place for a guest
 pub places_step : (step : Line) (old : Host) (g : Given) → length (host_after step old g).guests ≡ length old.guests
@@ -274,7 +393,7 @@ count_step other old g = omega arith
 pub next_step : (steps : List Line) (i : ℕ) (step : Line) → i < length steps → get_or steps i step ≡ step → drop i steps ≡ step ∷ drop (i + 1) steps
 next_step steps i step h is = rw (add-one) (drop-cons steps i step h ∙ ap (λ step. step ∷ drop (suc i) steps) is)
 
-pub stand_on : (old new : Host) (g : Given) (steps : List Line) (i : ℕ) (step : Line) → i < length steps → get_or steps i step ≡ step → length old.guests ≡ 64 → AllStand (names_of old) (drop i steps) → new ≡ host_after step old g → AllStand (names_of new) (drop (i + 1) steps)
-stand_on old new g steps i step lt at places stand is =
+pub stand_on : (old new : Host) (g : Given) (steps : List Line) (i : ℕ) (step : Line) → i < length steps → get_or steps i step ≡ step → length old.guests ≡ 64 → GuestsStand old → AllStand (names_of old) (drop i steps) → new ≡ host_after step old g → AllStand (names_of new) (drop (i + 1) steps) × GuestsStand new
+stand_on old new g steps i step lt at places guests stand is =
     let both : AllStand (names_of old) (step ∷ drop (i + 1) steps) = subst (λ rest. AllStand (names_of old) rest) (next_step steps i step lt at) stand in
-    rw (is, names_step step old g places both.0) both.1
+    (rw (is, names_step step old g places guests both.0) both.1, rw is (guests_step step old g places guests both.0))

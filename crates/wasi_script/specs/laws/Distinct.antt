@@ -10,7 +10,7 @@ use Rattle.std.proofs.lemmas.Map.Steps.{list_any_congr}
 use Rattle.std.proofs.lemmas.Slice.Eq.{bytes_eq-Decides}
 use Rattle.wasi_script.specs.declared.lines.Line.{Line}
 use Rattle.wasi_script.specs.declared.lines.Line.TheVariants as line
-use Rattle.wasi_script.specs.Grammar.{Names, no_names, is_among, may_stand, names_after, names_end, AllStand}
+use Rattle.wasi_script.specs.Grammar.{Names, no_names, is_among, may_declare, budget_stands, may_stand, names_after, names_end, AllStand}
 
 -- no name is declared twice, be it as an input, as an output or as both
 pub record AreDistinct (names : Names) : Type 0 where
@@ -21,8 +21,13 @@ pub record AreDistinct (names : Names) : Type 0 where
 laws : IsEquivalence bytes_eq
 laws = decided _ bytes_eq-Decides
 
+-- the first of two tests that both pass
+pub first_is : (first second : Bool) → (first && second) ≡ true → first ≡ true
+first_is true second is = refl
+first_is false second is = absurd (cc)
+
 -- what the test of a declaration says of its name
-is_new : (few inputs outputs : Bool) → (few && (not inputs && not outputs)) ≡ true → (inputs ≡ false) × (outputs ≡ false)
+pub is_new : (few inputs outputs : Bool) → (few && (not inputs && not outputs)) ≡ true → (inputs ≡ false) × (outputs ≡ false)
 is_new true false false is = (refl, refl)
 is_new true false true is = absurd (cc)
 is_new true true outputs is = absurd (cc)
@@ -58,16 +63,17 @@ distinct_after names (line.Input name it) stands distinct =
       apart = λ other. among_last other name names.inputs names.outputs (distinct.apart other) new.1;
     }
 distinct_after names (line.Output name it) stands distinct =
-    let new = is_new (nat_lt (length names.inputs + length names.outputs) 64) (is_among name names.inputs) (is_among name names.outputs) stands in
+    let new = is_new (nat_lt (length names.inputs + length names.outputs) 64) (is_among name names.inputs) (is_among name names.outputs) (first_is (may_declare names name) (budget_stands it) stands) in
     record {
       inputs = distinct.inputs;
       outputs = IsDistinct-push laws names.outputs name distinct.outputs new.1;
       apart = λ other is. not_last other name names.inputs names.outputs is new.0 (distinct.apart other is);
     }
 distinct_after names (line.Guest guest it) stands distinct = record { inputs = distinct.inputs; outputs = distinct.outputs; apart = distinct.apart }
-distinct_after names (line.Configure guest it) stands distinct = distinct
+distinct_after names (line.Configure guest it) stands distinct = record { inputs = distinct.inputs; outputs = distinct.outputs; apart = distinct.apart }
 distinct_after names (line.Call guest it) stands distinct = record { inputs = distinct.inputs; outputs = distinct.outputs; apart = distinct.apart }
 distinct_after names (line.Worker it) stands distinct = distinct
+distinct_after names (line.Turn it) stands distinct = distinct
 
 -- after all steps of a valid script
 pub names_distinct : (names : Names) (steps : List Line) → AllStand names steps → AreDistinct names → AreDistinct (names_end names steps)

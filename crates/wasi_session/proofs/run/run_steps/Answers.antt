@@ -3,7 +3,7 @@ use Rattle.wasi_stdin.specs.Shared.{given_now}
 use Rattle.wasi_script.specs.declared.lines.Line.{Line}
 use Rattle.wasi_reply.specs.Outputs.{output_lines}
 use Rattle.wasi_host.specs.Transcript.{outputs_of}
-use Rattle.wasi_host.specs.laws.Steps.{stand_on, names_new, places_step, count_step}
+use Rattle.wasi_host.specs.laws.Steps.{stand_on, names_new, guests_new, places_step, count_step}
 use Rattle.wasi_session.proofs.LoopFacts.{go_on, at_end, one_after, left_at, left_by_all, on_err}
 use Rattle.wasi_session.proofs.run.run_steps.Goals as goal
 
@@ -11,6 +11,7 @@ pub loop-line-init : goal.loop-line-init
 loop-line-init g c = record {
   stand = rw (c.in_ok-session.ensures, names_new) c.requires;
   places = rw c.in_ok-session.ensures refl;
+  guests = rw c.in_ok-session.ensures guests_new;
   count = rw c.in_ok-session.ensures (omega arith);
   told = λ t e. record { u = t; now_is = e; text_is = rw (c.new-text.ensures.items, c.in_ok-session.ensures) refl; end_is = rw c.in_ok-session.ensures refl; last_is = rw c.in_ok-session.ensures refl };
   first = λ t e. record { now_is = e; host_is = rw c.in_ok-session.ensures refl };
@@ -27,8 +28,10 @@ loop-line-preserved g c =
     let line : Line = c.line-item.result in
     let at : get_or steps i line ≡ line = sym c.line-item.is in
     let is = c.in_ok-step.ensures.step in
+    let next = stand_on old new given steps i line c.loop-line-test.true at c.loop-line.invariant.places c.loop-line.invariant.guests c.loop-line.invariant.stand is.host_is in
     record {
-      stand = stand_on old new given steps i line c.loop-line-test.true at c.loop-line.invariant.places c.loop-line.invariant.stand is.host_is;
+      stand = next.0;
+      guests = next.1;
       places = rw is.host_is (places_step line old given ∙ c.loop-line.invariant.places);
       count = rw is.host_is (omega (arith, count_step line old given));
       told = λ t e. go_on _ _ old new c.loop-line.text.items c.step.new.reply.items steps i line _ _ _ _ c.loop-line-test.true at (c.loop-line.invariant.told t e) is c.in_ok-step.ensures.text;

@@ -1,17 +1,48 @@
-use Rattle.std.proofs.Common.{◌≡◌, ◌<◌, ◌∙◌, ap, sym, length, get_or, true, false, arith}
-use Rattle.wasi_script.specs.Declarations.{names_in}
-use Rattle.wasi_script.specs.Grammar.{names_after}
-use Rattle.wasi_script.proofs.DeclarationFacts.{set_also, flag_within}
+use Rattle.std.proofs.Common.{◌≡◌, ◌<◌, ◌∙◌, ◌∷◌, ◌++◌, [], ap, sym, length, get_or, true, false, arith, Bool}
+use Rattle.wasi_script.specs.Declarations.{names_in, stream_names, task_at}
+use Rattle.wasi_script.specs.Grammar.{names_after, may_set_up, may_declare, budget_stands, setting_stands, call_stands, is_read_ahead, is_written_behind, is_among}
+use Rattle.wasi_script.specs.laws.Distinct.{first_is, is_new}
+use Rattle.wasi_script.proofs.DeclarationFacts.{set_known, flag_within, more_names, more_tasks}
 use Rattle.wasi_script.proofs.declarations.Declarations.declare.Goals as goal
+
+pub configure-requires : goal.configure-requires
+configure-requires c =
+    let set_up : may_set_up (names_in c.args.self.now) c.in-Configure.guest ≡ true = first_is _ (setting_stands (names_in c.args.self.now) c.in-Configure.setting) (rw c.in-Configure.is at c.requires) in
+    let within : c.in-Configure.guest < length c.args.self.now.declared = flag_within c.args.self.now.declared c.in-Configure.guest (first_is _ _ set_up) in
+    omega (arith, within)
+
+pub returns-in_ok-add-in-Input-clause-ok : goal.returns-in_ok-add-in-Input-clause-ok
+returns-in_ok-add-in-Input-clause-ok c =
+    let now = c.args.self.now in
+    let name = c.in-Input.name in
+    let it : Bool = is_read_ahead c.in-Input.input in
+    let new : is_among name (stream_names now.inputs) ≡ false = (is_new _ _ _ (rw c.in-Input.is at c.requires)).0 in
+    let added : c.add.new.self ≡ now.inputs ++ (name, it) ∷ [] = rw (← c.as_bytes.ensures, ← c.is_read_ahead.ensures) c.in_ok-add-in-Input.ensures.ok in
+    (λ i. record (names_in now) {
+      inputs = (ap stream_names added ∙ more_names now.inputs name it) i;
+      reads_ahead = λ other. (ap (λ streams. task_at streams other) added ∙ more_tasks now.inputs name it new other) i;
+    })
+    ∙ ap (names_after (names_in now)) (sym c.in-Input.is)
+
+pub returns-in_ok-add-in-Output-clause-ok : goal.returns-in_ok-add-in-Output-clause-ok
+returns-in_ok-add-in-Output-clause-ok c =
+    let now = c.args.self.now in
+    let name = c.in-Output.name in
+    let it : Bool = is_written_behind c.in-Output.output in
+    let new : is_among name (stream_names now.outputs) ≡ false = (is_new _ _ _ (first_is (may_declare (names_in now) name) (budget_stands c.in-Output.output) (rw c.in-Output.is at c.requires))).1 in
+    let added : c.add-in-Output.new.self ≡ now.outputs ++ (name, it) ∷ [] = rw (← c.as_bytes-in-Output.ensures, ← c.is_written_behind.ensures) c.in_ok-add-in-Output.ensures.ok in
+    (λ i. record (names_in now) {
+      outputs = (ap stream_names added ∙ more_names now.outputs name it) i;
+      writes_behind = λ other. (ap (λ streams. task_at streams other) added ∙ more_tasks now.outputs name it new other) i;
+    })
+    ∙ ap (names_after (names_in now)) (sym c.in-Output.is)
+
+pub returns-in-Guest-clause-ok : goal.returns-in-Guest-clause-ok
+returns-in-Guest-clause-ok c = c.declare_guest.ensures ∙ ap (names_after (names_in c.args.self.now)) (sym c.in-Guest.is)
 
 pub returns-in-Call-clause-ok : goal.returns-in-Call-clause-ok
 returns-in-Call-clause-ok c =
-    let stands : get_or c.args.self.now.declared c.in-Call.guest false ≡ true = rw c.in-Call.is at c.requires in
+    let stands : get_or c.args.self.now.declared c.in-Call.guest false ≡ true = first_is _ (call_stands (names_in c.args.self.now) c.in-Call.guest c.in-Call.call) (rw c.in-Call.is at c.requires) in
     let within : c.in-Call.guest < length c.args.self.now.called = omega (arith, flag_within c.args.self.now.declared c.in-Call.guest stands) in
-    (λ i. record {
-      is_guest = λ number. get_or c.args.self.now.declared number false;
-      was_called = λ number. set_also c.args.self.now.called c.in-Call.guest within number i;
-      inputs = c.args.self.now.inputs;
-      outputs = c.args.self.now.outputs;
-    })
+    (λ i. record (names_in c.args.self.now) { was_called = λ number. set_known c.args.self.now.called c.in-Call.guest true within number i })
     ∙ ap (names_after (names_in c.args.self.now)) (sym c.in-Call.is)

@@ -1,8 +1,14 @@
-use Rattle.std.proofs.Common.{◌∙◌, ap}
-use Rattle.std.specs.List.{list_any}
-use Rattle.std.specs.Str.{bytes_eq}
-use Rattle.wasi_script.proofs.NameSetFacts.{find_name}
+use Rattle.std.proofs.Common.{◌∙◌, ap, sym}
+use Rattle.std.specs.Prelude.{is_some}
+use Rattle.wasi_script.specs.Rows.{rows_of}
+use Rattle.wasi_script.specs.Declarations.{stream_names}
+use Rattle.wasi_script.specs.Grammar.{is_among}
+use Rattle.wasi_script.specs.laws.Rows.{rows_lookup, among_is}
 use Rattle.wasi_script.proofs.name_set.NameSet.contains.Goals as goal
 
 pub returns : goal.returns
-returns c = c.contains.ensures ∙ find_name c.self.inside.names.keys c.args.name.now ∙ ap (list_any (bytes_eq c.args.name.now)) c.self.view_is
+returns c =
+    c.contains_key.ensures
+    ∙ ap is_some (sym (rows_lookup c.args.name.now c.self.inside.names.entries))
+    ∙ sym (among_is c.args.name.now (rows_of c.self.inside.names.entries))
+    ∙ ap (λ streams. is_among c.args.name.now (stream_names streams)) c.self.view_is

@@ -1,8 +1,8 @@
 use Rattle.std.proofs.Common.{ap, refl, ◌∙◌}
 use Rattle.wasi_host.specs.declared.stream.InStream.{InStream}
 use Rattle.wasi_host.specs.Host.{Named, Streams}
-use Rattle.wasi_session.specs.Rows.{rows_of}
-use Rattle.wasi_session.proofs.RowFacts.{row_added}
+use Rattle.wasi_script.specs.Rows.{rows_of}
+use Rattle.wasi_script.specs.laws.Rows.{row_added}
 use Rattle.wasi_session.proofs.streams.Streams.add_input.Goals as goal
 
 pub returns-clause-ok : goal.returns-clause-ok

@@ -3,7 +3,7 @@ use Rattle.std.specs.Prelude.{map}
 use Rattle.wasi_reply.specs.Outputs.{output_lines}
 use Rattle.wasi_host.specs.OutStreams.{taken_of}
 use Rattle.wasi_host.specs.Transcript.{outputs_of}
-use Rattle.wasi_session.specs.Rows.{rows_of}
+use Rattle.wasi_script.specs.Rows.{rows_of}
 use Rattle.wasi_session.proofs.streams.Streams.outputs.Given as goal
 
 -- the text so far, with the lines of the rows that are left, is the whole text

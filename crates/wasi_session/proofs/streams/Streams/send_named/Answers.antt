@@ -3,7 +3,7 @@ use Rattle.wasi_host.specs.declared.stream.OutStream.{OutStream}
 use Rattle.wasi_host.specs.declared.stream.OutStream.TheVariants as out_stream
 use Rattle.wasi_host.specs.Calls.{sent}
 use Rattle.wasi_host.specs.Host.{Named, Streams}
-use Rattle.wasi_session.specs.Rows.{rows_of}
+use Rattle.wasi_script.specs.Rows.{rows_of}
 use Rattle.wasi_session.specs.Makes.{IsMake}
 use Rattle.wasi_session.proofs.RowFacts.{row_there, row_none, left_there, made_there, err_there, left_none, made_none, err_none}
 use Rattle.wasi_session.proofs.streams.Streams.send_named.Goals.{in-Some, in-None}

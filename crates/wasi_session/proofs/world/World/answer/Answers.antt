@@ -1,8 +1,18 @@
+use Rattle.wasi_script.specs.Grammar.{may_declare, budget_stands, call_stands}
+use Rattle.wasi_script.specs.laws.Distinct.{first_is}
+use Rattle.wasi_host.specs.Host.{names_of}
+use Rattle.wasi_host.specs.laws.Steps.{second_of}
 use Rattle.wasi_session.proofs.GuestFacts.{no_input, no_output}
 use Rattle.wasi_session.proofs.world.World.answer.Goals as goal
 
 pub declare_input-requires : goal.declare_input-requires
 declare_input-requires g c = no_input c.args.self.now c.in-Input.name (rw c.in-Input.is at c.requires.fits)
 
-pub declare_output-requires : goal.declare_output-requires
-declare_output-requires g c = no_output c.args.self.now c.in-Output.name (rw c.in-Output.is at c.requires.fits)
+pub declare_output-requires-clause-new : goal.declare_output-requires-clause-new
+declare_output-requires-clause-new g c = no_output c.args.self.now c.in-Output.name (first_is _ (budget_stands c.in-Output.output) (rw c.in-Output.is at c.requires.fits))
+
+pub declare_output-requires-clause-stands : goal.declare_output-requires-clause-stands
+declare_output-requires-clause-stands g c = second_of (may_declare (names_of c.args.self.now) c.in-Output.name) _ (rw c.in-Output.is at c.requires.fits)
+
+pub call-requires : goal.call-requires
+call-requires g c = first_is _ (call_stands (names_of c.args.self.now) c.in-Call.guest c.in-Call.call) (rw c.in-Call.is at c.requires.fits)

@@ -1,0 +1,344 @@
+-- Which streams have a task: no step changes that of a declared stream, so what is known of a guest's streams stays true.
+use Rattle.std.proofs.Common.{◌≡◌, ℕ, Bool, true, false, cond, List, [], ◌∷◌, ◌++◌, Option, Some, None, refl, ap, sym, ◌∙◌, true≢false}
+use Rattle.std.specs.Prelude.{is_some, unwrap_or, nat_eq, ◌||◌}
+use Rattle.std.specs.Map.{lookup}
+use Rattle.std.specs.Option.{option_map}
+use Rattle.std.specs.Str.{bytes_eq}
+use Rattle.std.proofs.lemmas.List.Folds.{list_any-append}
+use Rattle.wasi_stdin.specs.Shared.{Shared}
+use Rattle.wasi_script.specs.declared.lines.Input.{Input}
+use Rattle.wasi_script.specs.declared.lines.Input.TheVariants as input
+use Rattle.wasi_script.specs.declared.lines.Output.{Output}
+use Rattle.wasi_script.specs.declared.lines.Output.TheVariants as output
+use Rattle.wasi_script.specs.declared.lines.InputDeclaration.{InputDeclaration}
+use Rattle.wasi_script.specs.declared.lines.InputDeclaration.TheVariants as declared_in
+use Rattle.wasi_script.specs.declared.lines.OutputDeclaration.{OutputDeclaration}
+use Rattle.wasi_script.specs.declared.lines.OutputDeclaration.TheVariants as declared_out
+use Rattle.wasi_script.specs.declared.lines.Standard.{Standard}
+use Rattle.wasi_script.specs.declared.lines.Standard.TheVariants as standard
+use Rattle.wasi_script.specs.declared.lines.Setting.{Setting}
+use Rattle.wasi_script.specs.declared.lines.Setting.TheVariants as setting
+use Rattle.wasi_script.specs.declared.lines.EntryCall.{EntryCall}
+use Rattle.wasi_script.specs.declared.lines.EntryCall.TheVariants as ask
+use Rattle.wasi_script.specs.declared.lines.Call.{Call}
+use Rattle.wasi_script.specs.declared.lines.Call.TheVariants as call
+use Rattle.wasi_script.specs.declared.lines.StreamTask.{StreamTask}
+use Rattle.wasi_script.specs.declared.lines.StreamTask.TheVariants as task
+use Rattle.wasi_script.specs.declared.lines.Line.{Line}
+use Rattle.wasi_script.specs.declared.lines.Line.TheVariants as line
+use Rattle.wasi_script.specs.Grammar.{Names, names_after, is_among, is_read_ahead, is_written_behind, input_has_task, output_has_task, input_stands, output_stands, setting_stands}
+use Rattle.wasi_script.specs.laws.Rows.{among_is, absent_is, found_last, found_before}
+use Rattle.wasi_host.specs.declared.entry.Entry.{Entry}
+use Rattle.wasi_host.specs.declared.entry.Entry.TheVariants as entry
+use Rattle.wasi_host.specs.declared.entry.StreamEntry.{StreamEntry}
+use Rattle.wasi_host.specs.declared.entry.StreamEntry.TheVariants as on
+use Rattle.wasi_host.specs.declared.stream.InStream.{InStream}
+use Rattle.wasi_host.specs.declared.stream.InStream.TheVariants as in_stream
+use Rattle.wasi_host.specs.declared.stream.OutStream.{OutStream}
+use Rattle.wasi_host.specs.declared.stream.OutStream.TheVariants as out_stream
+use Rattle.wasi_host.specs.InStreams.{after_input_read, after_input_poll_read}
+use Rattle.wasi_host.specs.OutStreams.{after_output_check_write, after_output_write, after_output_flush, after_output_poll_write, after_output_poll_flush}
+use Rattle.wasi_host.specs.Tasks.{input_turned, output_turned}
+use Rattle.wasi_host.specs.Deeds.{entry_at}
+use Rattle.wasi_host.specs.Calls.{Owner, called, sent}
+use Rattle.wasi_host.specs.Host.{Named, Guest, Streams, Host, Rules, the_rules, new_guest, configured, new_input, new_output, taken_out, put_back, input_at, put_input, output_at, put_output, answer_at, answer_to, answer_by, answer_in, after_task, guest_of, is_reader, is_writer, reads_ahead_in, writes_behind_in, task_of, names_in, names_of}
+
+-- ---- a call or a turn leaves a stream of its kind
+read_kind : (size : ℕ) (s : InStream) → is_reader (Some (after_input_read s size)) ≡ is_reader (Some s)
+read_kind size in_stream.Closed = refl
+read_kind size (in_stream.Pipe left) = refl
+read_kind size (in_stream.File told) = refl
+read_kind size (in_stream.Async reader) = refl
+
+poll_read_kind : (room : ℕ) (s : InStream) → is_reader (Some (after_input_poll_read s room)) ≡ is_reader (Some s)
+poll_read_kind room in_stream.Closed = refl
+poll_read_kind room (in_stream.Pipe left) = refl
+poll_read_kind room (in_stream.File told) = refl
+poll_read_kind room (in_stream.Async reader) = refl
+
+called_kind : (it : EntryCall) (at : Owner) (e : StreamEntry) (s : InStream) → is_reader (Some (called it at e s).left) ≡ is_reader (Some s)
+called_kind (ask.Read size) at on.Plain s = read_kind size s
+called_kind (ask.Skip size) at on.Plain s = read_kind size s
+called_kind (ask.PollRead room) at on.Polled s = poll_read_kind room s
+called_kind ask.Ready at on.Pollable s = refl
+called_kind other at on.Plain s = refl
+called_kind other at on.Polled s = refl
+called_kind other at on.Pollable s = refl
+
+read_ahead_kind : (s : InStream) → is_reader (Some (input_turned s).left) ≡ is_reader (Some s)
+read_ahead_kind in_stream.Closed = refl
+read_ahead_kind (in_stream.Pipe left) = refl
+read_ahead_kind (in_stream.File told) = refl
+read_ahead_kind (in_stream.Async reader) = refl
+
+-- an output that keeps nothing, one whose writes go straight out, and one that buffers
+abbrev pub sort_of : OutStream → ℕ
+sort_of (out_stream.Pipe pipe) = 1
+sort_of (out_stream.File out) = 1
+sort_of (out_stream.Stdio out) = 1
+sort_of (out_stream.Buffered writer) = 2
+sort_of other = 0
+
+check_sort : (s : OutStream) → sort_of (after_output_check_write s) ≡ sort_of s
+check_sort (out_stream.Buffered writer) = refl
+check_sort other = refl
+
+write_sort : (bytes : List ℕ) (s : OutStream) → sort_of (after_output_write s bytes) ≡ sort_of s
+write_sort bytes (out_stream.Pipe pipe) = refl
+write_sort bytes (out_stream.File out) = refl
+write_sort bytes (out_stream.Stdio out) = refl
+write_sort bytes (out_stream.Buffered writer) = refl
+write_sort bytes other = refl
+
+flush_sort : (s : OutStream) → sort_of (after_output_flush s) ≡ sort_of s
+flush_sort (out_stream.File out) = refl
+flush_sort (out_stream.Stdio out) = refl
+flush_sort (out_stream.Buffered writer) = refl
+flush_sort other = refl
+
+poll_write_sort : (piece : List ℕ) (s : OutStream) → sort_of (after_output_poll_write s piece) ≡ sort_of s
+poll_write_sort piece (out_stream.Pipe pipe) = refl
+poll_write_sort piece (out_stream.File out) = refl
+poll_write_sort piece (out_stream.Stdio out) = refl
+poll_write_sort piece other = refl
+
+poll_flush_sort : (s : OutStream) → sort_of (after_output_poll_flush s) ≡ sort_of s
+poll_flush_sort (out_stream.File out) = refl
+poll_flush_sort (out_stream.Stdio out) = refl
+poll_flush_sort (out_stream.Buffered writer) = refl
+poll_flush_sort other = refl
+
+pub sent_sort : (it : EntryCall) (to : Standard) (at : Owner) (e : StreamEntry) (s : OutStream) → sort_of (sent it to at e s).left ≡ sort_of s
+sent_sort ask.CheckWrite to at on.Plain s = check_sort s
+sent_sort (ask.Write bytes) to at on.Plain s = write_sort bytes s
+sent_sort ask.Flush to at on.Plain s = flush_sort s
+sent_sort (ask.PollWrite piece) to at on.Polled s = poll_write_sort piece s
+sent_sort ask.PollFlush to at on.Polled s = poll_flush_sort s
+sent_sort ask.Ready to at on.Pollable s = refl
+sent_sort other to at on.Plain s = refl
+sent_sort other to at on.Polled s = refl
+sent_sort other to at on.Pollable s = refl
+
+pub turned_sort : (s : OutStream) → sort_of (output_turned s).left ≡ sort_of s
+turned_sort (out_stream.Buffered writer) = refl
+turned_sort other = refl
+
+writer_by : (s : OutStream) → is_writer (Some s) ≡ nat_eq (sort_of s) 2
+writer_by (out_stream.Pipe pipe) = refl
+writer_by (out_stream.File out) = refl
+writer_by (out_stream.Stdio out) = refl
+writer_by (out_stream.Buffered writer) = refl
+writer_by other = refl
+
+same_sort : (one two : OutStream) → sort_of one ≡ sort_of two → is_writer (Some one) ≡ is_writer (Some two)
+same_sort one two same = writer_by one ∙ ap (λ n. nat_eq n 2) same ∙ sym (writer_by two)
+
+sent_kind : (it : EntryCall) (to : Standard) (at : Owner) (e : StreamEntry) (s : OutStream) → is_writer (Some (sent it to at e s).left) ≡ is_writer (Some s)
+sent_kind it to at e s = same_sort (sent it to at e s).left s (sent_sort it to at e s)
+
+write_behind_kind : (s : OutStream) → is_writer (Some (output_turned s).left) ≡ is_writer (Some s)
+write_behind_kind s = same_sort (output_turned s).left s (turned_sort s)
+
+-- ---- what is put back under a name is found as it was, as far as its kind goes
+pub kinds_put : {A B : Type 0} (kind : Option A → B) (none : A) (left : A → A) → ((it : A) → kind (Some (left it)) ≡ kind (Some it)) → (n m : List ℕ) (named : Named A) → kind (lookup (bytes_eq m) (put_back n (left (taken_out none n named)) named)) ≡ kind (lookup (bytes_eq m) named)
+kinds_put kind none left keeps n m [] = refl
+kinds_put {A} {B} kind none left keeps n m (row ∷ named) = by (bytes_eq n row.0) (kinds_put kind none left keeps n m named)
+  where
+    here : (c : Bool) → kind (cond c (Some (left row.1)) (lookup (bytes_eq m) named)) ≡ kind (cond c (Some row.1) (lookup (bytes_eq m) named))
+    here true = keeps row.1
+    here false = refl
+
+    there : (c : Bool) (x : A) → kind (lookup (bytes_eq m) (put_back n x named)) ≡ kind (lookup (bytes_eq m) named) → kind (cond c (Some row.1) (lookup (bytes_eq m) (put_back n x named))) ≡ kind (cond c (Some row.1) (lookup (bytes_eq m) named))
+    there true x rest = refl
+    there false x rest = rest
+
+    by : (b : Bool) → kind (lookup (bytes_eq m) (put_back n (left (taken_out none n named)) named)) ≡ kind (lookup (bytes_eq m) named)
+        → let x : A = left (unwrap_or (cond b (Some row.1) (lookup (bytes_eq n) named)) none) in kind (lookup (bytes_eq m) (cond b ((row.0, x) ∷ named) (row ∷ put_back n x named))) ≡ kind (cond (bytes_eq m row.0) (Some row.1) (lookup (bytes_eq m) named))
+    by true rest = here (bytes_eq m row.0)
+    by false rest = there (bytes_eq m row.0) (left (taken_out none n named)) rest
+
+pub record SameKinds (after before : Streams) : Type 0 where
+  pub reads : (name : List ℕ) → reads_ahead_in after name ≡ reads_ahead_in before name
+  pub writes : (name : List ℕ) → writes_behind_in after name ≡ writes_behind_in before name
+
+input_kinds : (from : Input) (left : InStream → InStream) → ((s : InStream) → is_reader (Some (left s)) ≡ is_reader (Some s)) → (streams : Streams) → SameKinds (put_input from (left (input_at from streams)) streams) streams
+input_kinds (input.Named n) left keeps streams = record { reads = λ name. kinds_put is_reader in_stream.Closed left keeps n name streams.inputs; writes = λ name. refl }
+input_kinds other left keeps streams = record { reads = λ name. refl; writes = λ name. refl }
+
+output_kinds : (to : Output) (left : OutStream → OutStream) → ((s : OutStream) → is_writer (Some (left s)) ≡ is_writer (Some s)) → (streams : Streams) → SameKinds (put_output to (left (output_at to streams)) streams) streams
+output_kinds (output.Named n) left keeps streams = record { reads = λ name. refl; writes = λ name. kinds_put is_writer out_stream.Closed left keeps n name streams.outputs }
+output_kinds other left keeps streams = record { reads = λ name. refl; writes = λ name. refl }
+
+at_kinds : (it : EntryCall) (at : Owner) (o : Option Entry) (guest : Guest) (s : Shared) (streams : Streams) → SameKinds (answer_at the_rules it at o guest s streams).streams streams
+at_kinds it at None guest s streams = record { reads = λ name. refl; writes = λ name. refl }
+at_kinds it at (Some (entry.Shared e)) guest s streams = record { reads = λ name. refl; writes = λ name. refl }
+at_kinds it at (Some (entry.Stream standard.Input e)) guest s streams = input_kinds guest.settings.input (λ s. (called it at e s).left) (called_kind it at e) streams
+at_kinds it at (Some (entry.Stream standard.Output e)) guest s streams = output_kinds guest.settings.stdout (λ s. (sent it standard.Output at e s).left) (sent_kind it standard.Output at e) streams
+at_kinds it at (Some (entry.Stream standard.Error e)) guest s streams = output_kinds guest.settings.stderr (λ s. (sent it standard.Error at e s).left) (sent_kind it standard.Error at e) streams
+
+to_kinds : (c : Call) (g : ℕ) (guest : Guest) (s : Shared) (streams : Streams) → SameKinds (answer_to the_rules c g guest s streams).streams streams
+to_kinds (call.On n it) g guest s streams = at_kinds it (record { guest = g; number = n }) (entry_at guest.own n) guest s streams
+to_kinds other g guest s streams = record { reads = λ name. refl; writes = λ name. refl }
+
+by_kinds : (b : Bool) (c : Call) (g : ℕ) (guest : Guest) (s : Shared) (streams : Streams) → SameKinds (answer_by b the_rules c g guest s streams).streams streams
+by_kinds true c g guest s streams = record { reads = λ name. refl; writes = λ name. refl }
+by_kinds false c g guest s streams = to_kinds c g guest s streams
+
+pub call_kinds : (c : Call) (g : ℕ) (o : Option Guest) (s : Shared) (streams : Streams) → SameKinds (answer_in the_rules c g o s streams).streams streams
+call_kinds c g None s streams = record { reads = λ name. refl; writes = λ name. refl }
+call_kinds c g (Some guest) s streams = by_kinds guest.ended c g guest s streams
+
+pub turn_kinds : (it : StreamTask) (streams : Streams) → SameKinds (after_task the_rules it streams) streams
+turn_kinds (task.Reader name) streams = input_kinds (input.Named name) (λ s. (input_turned s).left) read_ahead_kind streams
+turn_kinds (task.Writer name) streams = output_kinds (output.Named name) (λ s. (output_turned s).left) write_behind_kind streams
+
+-- ---- a call leaves its guest's settings, whatever the rules are
+at_settings : (rules : Rules) (it : EntryCall) (at : Owner) (o : Option Entry) (guest : Guest) (s : Shared) (streams : Streams) → (answer_at rules it at o guest s streams).guest.settings ≡ guest.settings
+at_settings rules it at None guest s streams = refl
+at_settings rules it at (Some (entry.Shared e)) guest s streams = refl
+at_settings rules it at (Some (entry.Stream standard.Input e)) guest s streams = refl
+at_settings rules it at (Some (entry.Stream standard.Output e)) guest s streams = refl
+at_settings rules it at (Some (entry.Stream standard.Error e)) guest s streams = refl
+
+to_settings : (rules : Rules) (c : Call) (g : ℕ) (guest : Guest) (s : Shared) (streams : Streams) → (answer_to rules c g guest s streams).guest.settings ≡ guest.settings
+to_settings rules (call.On n it) g guest s streams = at_settings rules it (record { guest = g; number = n }) (entry_at guest.own n) guest s streams
+to_settings rules (call.Open it how) g guest s streams = refl
+to_settings rules (call.Drop n) g guest s streams = refl
+to_settings rules (call.Own it) g guest s streams = refl
+
+pub call_settings : (rules : Rules) (b : Bool) (c : Call) (g : ℕ) (guest : Guest) (s : Shared) (streams : Streams) → (answer_by b rules c g guest s streams).guest.settings ≡ guest.settings
+call_settings rules true c g guest s streams = refl
+call_settings rules false c g guest s streams = to_settings rules c g guest s streams
+
+-- ---- whether a guest's streams have a task
+same_input : (one two : List ℕ → Bool) (it : Input) → ((name : List ℕ) → one name ≡ two name) → input_has_task one it ≡ input_has_task two it
+same_input one two (input.Named name) same = same name
+same_input one two other same = refl
+
+same_output : (one two : List ℕ → Bool) (it : Output) → ((name : List ℕ) → one name ≡ two name) → output_has_task one it ≡ output_has_task two it
+same_output one two (output.Named name) same = same name
+same_output one two other same = refl
+
+pub kinds_tasks : (after before : Streams) → SameKinds after before → (stream : Standard) (o : Option Guest) → task_of after stream o ≡ task_of before stream o
+kinds_tasks after before same stream None = refl
+kinds_tasks after before same standard.Input (Some guest) = same_input (reads_ahead_in after) (reads_ahead_in before) guest.settings.input same.reads
+kinds_tasks after before same standard.Output (Some guest) = same_output (writes_behind_in after) (writes_behind_in before) guest.settings.stdout same.writes
+kinds_tasks after before same standard.Error (Some guest) = same_output (writes_behind_in after) (writes_behind_in before) guest.settings.stderr same.writes
+
+-- a call of a guest
+pub called_task : (streams streams' : Streams) (stream : Standard) (c : Call) (g : ℕ) (o : Option Guest) (s : Shared) → is_some o ≡ true → task_of streams stream (Some (answer_in the_rules c g o s streams').guest) ≡ task_of streams stream o
+called_task streams streams' stream c g None s there = absurd (true≢false (sym there))
+called_task streams streams' standard.Input c g (Some guest) s there = ap (λ settings. input_has_task (reads_ahead_in streams) settings.input) (call_settings the_rules guest.ended c g guest s streams')
+called_task streams streams' standard.Output c g (Some guest) s there = ap (λ settings. output_has_task (writes_behind_in streams) settings.stdout) (call_settings the_rules guest.ended c g guest s streams')
+called_task streams streams' standard.Error c g (Some guest) s there = ap (λ settings. output_has_task (writes_behind_in streams) settings.stderr) (call_settings the_rules guest.ended c g guest s streams')
+
+-- ---- what guests name is declared
+pub record NamesStand (names : Names) (guest : Guest) : Type 0 where
+  pub reads : input_stands names guest.settings.input ≡ true
+  pub writes : output_stands names guest.settings.stdout ≡ true
+  pub tells : output_stands names guest.settings.stderr ≡ true
+
+abbrev pub GuestStands : Names → Option Guest → Type 0
+GuestStands names None = Unit {0}
+GuestStands names (Some guest) = NamesStand names guest
+
+abbrev pub GuestsStand : Host → Type 0
+GuestsStand host = (g : ℕ) → GuestStands (names_of host) (guest_of host g)
+
+pub same_settings : (names : Names) (one two : Guest) → one.settings ≡ two.settings → NamesStand names two → NamesStand names one
+same_settings names one two same stand = record {
+  reads = ap (λ settings. input_stands names settings.input) same ∙ stand.reads;
+  writes = ap (λ settings. output_stands names settings.stdout) same ∙ stand.writes;
+  tells = ap (λ settings. output_stands names settings.stderr) same ∙ stand.tells;
+}
+
+-- what is declared stays declared
+record Grows (before after : Names) : Type 0 where
+  inputs : (n : List ℕ) → is_among n before.inputs ≡ true → is_among n after.inputs ≡ true
+  outputs : (n : List ℕ) → is_among n before.outputs ≡ true → is_among n after.outputs ≡ true
+
+among_more : (n : List ℕ) (names : List (List ℕ)) (name : List ℕ) → is_among n names ≡ true → is_among n (names ++ name ∷ []) ≡ true
+among_more n names name is = list_any-append (bytes_eq n) names (name ∷ []) ∙ ap (λ b. b || is_among n (name ∷ [])) is
+
+step_grows : (names : Names) (step : Line) → Grows names (names_after names step)
+step_grows names (line.Input name it) = record { inputs = λ n is. among_more n names.inputs name is; outputs = λ n is. is }
+step_grows names (line.Output name it) = record { inputs = λ n is. is; outputs = λ n is. among_more n names.outputs name is }
+step_grows names other = record { inputs = λ n is. is; outputs = λ n is. is }
+
+input_grown : (before after : Names) → Grows before after → (it : Input) → input_stands before it ≡ true → input_stands after it ≡ true
+input_grown before after grows (input.Named name) is = grows.inputs name is
+input_grown before after grows other is = refl
+
+output_grown : (before after : Names) → Grows before after → (it : Output) → output_stands before it ≡ true → output_stands after it ≡ true
+output_grown before after grows (output.Named name) is = grows.outputs name is
+output_grown before after grows other is = refl
+
+guest_grown : (before after : Names) → Grows before after → (guest : Guest) → NamesStand before guest → NamesStand after guest
+guest_grown before after grows guest stand = record {
+  reads = input_grown before after grows guest.settings.input stand.reads;
+  writes = output_grown before after grows guest.settings.stdout stand.writes;
+  tells = output_grown before after grows guest.settings.stderr stand.tells;
+}
+
+module _ (names : Names) (step : Line) where
+  pub stand_after : (o : Option Guest) → GuestStands names o → GuestStands (names_after names step) o
+  stand_after None stand = tt
+  stand_after (Some guest) stand = guest_grown names (names_after names step) (step_grows names step) guest stand
+
+  pub new_stands : (it : Input) → input_stands names it ≡ true → NamesStand (names_after names step) (new_guest it)
+  new_stands it stands = record { reads = input_grown names (names_after names step) (step_grows names step) it stands; writes = refl; tells = refl }
+
+  pub configured_stands : (it : Setting) (o : Option Guest) → setting_stands names it ≡ true → GuestStands names o → GuestStands (names_after names step) (option_map (configured it) o)
+  configured_stands it None is stand = tt
+  configured_stands (setting.Stdout to) (Some guest) is stand =
+      let all = guest_grown names (names_after names step) (step_grows names step) guest stand in
+      record { reads = all.reads; writes = output_grown names (names_after names step) (step_grows names step) to is; tells = all.tells }
+  configured_stands (setting.Stderr to) (Some guest) is stand =
+      let all = guest_grown names (names_after names step) (step_grows names step) guest stand in
+      record { reads = all.reads; writes = all.writes; tells = output_grown names (names_after names step) (step_grows names step) to is }
+  configured_stands (setting.Capacity capacity) (Some guest) is stand =
+      let all = guest_grown names (names_after names step) (step_grows names step) guest stand in
+      record { reads = all.reads; writes = all.writes; tells = all.tells }
+
+-- ---- a new name: the streams that guests name are found as before
+input_still : (host : Host) (name : List ℕ) (it : InStream) (from : Input) → input_stands (names_of host) from ≡ true → input_has_task (λ other. is_reader (lookup (bytes_eq other) (host.streams.inputs ++ (name, it) ∷ []))) from ≡ input_has_task (reads_ahead_in host.streams) from
+input_still host name it (input.Named n) stands = ap is_reader (found_before host.streams.inputs name it n (sym (among_is n host.streams.inputs) ∙ stands))
+input_still host name it other stands = refl
+
+output_still : (host : Host) (name : List ℕ) (it : OutStream) (to : Output) → output_stands (names_of host) to ≡ true → output_has_task (λ other. is_writer (lookup (bytes_eq other) (host.streams.outputs ++ (name, it) ∷ []))) to ≡ output_has_task (writes_behind_in host.streams) to
+output_still host name it (output.Named n) stands = ap is_writer (found_before host.streams.outputs name it n (sym (among_is n host.streams.outputs) ∙ stands))
+output_still host name it other stands = refl
+
+pub input_tasks : (host : Host) (name : List ℕ) (it : InStream) (stream : Standard) (o : Option Guest) → GuestStands (names_of host) o → task_of (record { inputs = host.streams.inputs ++ (name, it) ∷ []; outputs = host.streams.outputs }) stream o ≡ task_of host.streams stream o
+input_tasks host name it stream None stand = refl
+input_tasks host name it standard.Input (Some guest) stand = input_still host name it guest.settings.input stand.reads
+input_tasks host name it standard.Output (Some guest) stand = refl
+input_tasks host name it standard.Error (Some guest) stand = refl
+
+pub output_tasks : (host : Host) (name : List ℕ) (it : OutStream) (stream : Standard) (o : Option Guest) → GuestStands (names_of host) o → task_of (record { inputs = host.streams.inputs; outputs = host.streams.outputs ++ (name, it) ∷ [] }) stream o ≡ task_of host.streams stream o
+output_tasks host name it stream None stand = refl
+output_tasks host name it standard.Input (Some guest) stand = refl
+output_tasks host name it standard.Output (Some guest) stand = output_still host name it guest.settings.stdout stand.writes
+output_tasks host name it standard.Error (Some guest) stand = output_still host name it guest.settings.stderr stand.tells
+
+-- .. and it has a task where its line says so
+kind_of_new : {A : Type 0} (kind : Option A → Bool) (it : A) (is b : Bool) (o : Option A) → kind (Some it) ≡ is → kind (cond b (Some it) o) ≡ cond b is (kind o)
+kind_of_new kind it is true o e = e
+kind_of_new kind it is false o e = refl
+
+new_reader_is : (it : InputDeclaration) → is_reader (Some (new_input it)) ≡ is_read_ahead it
+new_reader_is (declared_in.Pipe bytes) = refl
+new_reader_is (declared_in.File bytes plan) = refl
+new_reader_is (declared_in.Async bytes plan) = refl
+
+new_writer_is : (it : OutputDeclaration) → is_writer (Some (new_output it)) ≡ is_written_behind it
+new_writer_is (declared_out.Pipe capacity) = refl
+new_writer_is (declared_out.File room plan) = refl
+new_writer_is (declared_out.Stdio room plan) = refl
+new_writer_is (declared_out.Buffered room plan budget) = refl
+
+pub readers_more : (inputs : Named InStream) (name : List ℕ) (it : InputDeclaration) → is_among name (names_in inputs) ≡ false → (other : List ℕ) → is_reader (lookup (bytes_eq other) (inputs ++ (name, new_input it) ∷ [])) ≡ cond (bytes_eq other name) (is_read_ahead it) (is_reader (lookup (bytes_eq other) inputs))
+readers_more inputs name it new other = ap is_reader (found_last inputs name (new_input it) other (absent_is name inputs new)) ∙ kind_of_new is_reader (new_input it) (is_read_ahead it) (bytes_eq other name) (lookup (bytes_eq other) inputs) (new_reader_is it)
+
+pub writers_more : (outputs : Named OutStream) (name : List ℕ) (it : OutputDeclaration) → is_among name (names_in outputs) ≡ false → (other : List ℕ) → is_writer (lookup (bytes_eq other) (outputs ++ (name, new_output it) ∷ [])) ≡ cond (bytes_eq other name) (is_written_behind it) (is_writer (lookup (bytes_eq other) outputs))
+writers_more outputs name it new other = ap is_writer (found_last outputs name (new_output it) other (absent_is name outputs new)) ∙ kind_of_new is_writer (new_output it) (is_written_behind it) (bytes_eq other name) (lookup (bytes_eq other) outputs) (new_writer_is it)
