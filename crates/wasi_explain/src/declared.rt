@@ -21,15 +21,20 @@ struct Row<'a> {
     has_task: bool,
 }
 
-/// What lines declared, which guests called in them, and which standard streams of guests have a
-/// task.
+/// What lines say of a guest, and which of its standard streams have a task.
+#[derive(Clone, Copy, Default, Drop)]
+struct Guest {
+    is_declared: bool,
+    has_called: bool,
+    input_has_task: bool,
+    output_has_task: bool,
+    error_has_task: bool,
+}
+
+/// What lines declared, and which guests called in them.
 #[derive(Drop)]
 pub struct Declared<'a> {
-    guests: [bool; 64],
-    callers: [bool; 64],
-    input_tasks: [bool; 64],
-    output_tasks: [bool; 64],
-    error_tasks: [bool; 64],
+    guests: [Guest; 64],
     streams: Vec<Row<'a>>,
 }
 
@@ -37,11 +42,7 @@ impl<'a> Declared<'a> {
     /// By lines that are all valid.
     pub fn in_lines(alloc: Global, lines: &'a [u8]) -> Result<Declared<'a>, OutOfMemory> {
         let mut declared = Declared {
-            guests: [false; 64],
-            callers: [false; 64],
-            input_tasks: [false; 64],
-            output_tasks: [false; 64],
-            error_tasks: [false; 64],
+            guests: [Guest::default(); 64],
             streams: Vec::new(alloc),
         };
         for line in lines.split(|byte| *byte == b'\n') {
@@ -66,10 +67,12 @@ impl<'a> Declared<'a> {
 
     fn add(&mut self, field: Field, word: &'a [u8]) -> Result<(), OutOfMemory> {
         match field {
-            Field::NewStream(stream) => self.add_stream(word, stream, false)?,
-            Field::NewStreamWithTask(stream) => self.add_stream(word, stream, true)?,
-            Field::NewGuest => mark(&mut self.guests, word, true),
-            Field::Caller => mark(&mut self.callers, word, true),
+            Field::NewInput => self.add_stream(word, Stream::Input, false)?,
+            Field::NewAsyncIn => self.add_stream(word, Stream::Input, true)?,
+            Field::NewOutput => self.add_stream(word, Stream::Output, false)?,
+            Field::NewBuffered => self.add_stream(word, Stream::Output, true)?,
+            Field::NewGuest => self.declare_guest(word),
+            Field::Caller => self.add_caller(word),
             _ => {}
         }
         Ok(())
@@ -90,34 +93,56 @@ impl<'a> Declared<'a> {
         Ok(())
     }
 
+    fn declare_guest(&mut self, word: &[u8]) {
+        if let Some(guest) = self.guest_mut(word) {
+            guest.is_declared = true;
+        }
+    }
+
+    fn add_caller(&mut self, word: &[u8]) {
+        if let Some(guest) = self.guest_mut(word) {
+            guest.has_called = true;
+        }
+    }
+
     // a line that gives a guest a standard stream, and with it the stream's task, if it has one
     fn give_stream(&mut self, line: &[u8]) {
         let mut words = Words::new(line);
         if let (Some(word), Some(guest), Some(name)) = (words.next(), words.next(), words.next()) {
             let has_task = self.has_task(name.text);
-            match word.text {
-                b"guest" => mark(&mut self.input_tasks, guest.text, has_task),
-                b"stdout" => mark(&mut self.output_tasks, guest.text, has_task),
-                b"stderr" => mark(&mut self.error_tasks, guest.text, has_task),
-                _ => {}
+            if let Some(guest) = self.guest_mut(guest.text) {
+                match word.text {
+                    b"guest" => guest.input_has_task = has_task,
+                    b"stdout" => guest.output_has_task = has_task,
+                    b"stderr" => guest.error_has_task = has_task,
+                    _ => {}
+                }
             }
         }
     }
 
+    fn guest_mut(&mut self, word: &[u8]) -> Option<&mut Guest> {
+        let number = guest_number(word).ok()?;
+        self.guests.get_mut(number as usize)
+    }
+
     pub fn has_guest(&self, number: u64) -> bool {
-        is_marked(&self.guests, number)
+        number < 64 && self.guests[number as usize].is_declared
     }
 
     pub fn has_called(&self, number: u64) -> bool {
-        is_marked(&self.callers, number)
+        number < 64 && self.guests[number as usize].has_called
     }
 
     /// Whether this standard stream of a guest has a task.
     pub fn is_with_task(&self, number: u64, stream: Standard) -> bool {
-        match stream {
-            Standard::Input => is_marked(&self.input_tasks, number),
-            Standard::Output => is_marked(&self.output_tasks, number),
-            Standard::Error => is_marked(&self.error_tasks, number),
+        match self.guests.get(number as usize) {
+            Some(guest) => match stream {
+                Standard::Input => guest.input_has_task,
+                Standard::Output => guest.output_has_task,
+                Standard::Error => guest.error_has_task,
+            },
+            None => false,
         }
     }
 
@@ -138,16 +163,4 @@ impl<'a> Declared<'a> {
     pub fn is_full(&self) -> bool {
         self.streams.len() >= 64
     }
-}
-
-fn mark(guests: &mut [bool; 64], word: &[u8], is: bool) {
-    if let Ok(number) = guest_number(word) {
-        if number < 64 {
-            guests[number as usize] = is;
-        }
-    }
-}
-
-fn is_marked(guests: &[bool; 64], number: u64) -> bool {
-    number < 64 && guests[number as usize]
 }

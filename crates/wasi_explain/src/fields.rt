@@ -5,8 +5,14 @@ use crate::reason::Reason;
 /// What a word of a line has to be.
 #[derive(Clone, Copy, Debug, PartialEq, Eq, Drop)]
 pub enum Field {
-    /// The name of the stream that the line declares.
-    NewStream { stream: Stream, has_task: bool },
+    /// The name of the input that the line declares.
+    NewInput,
+    /// The same, of an input that a task reads ahead.
+    NewAsyncIn,
+    /// The name of the output that the line declares.
+    NewOutput,
+    /// The same, of an output that buffers for a task.
+    NewBuffered,
     /// The name of a declared stream whose task has its turn.
     Task(Stream),
     /// The guest that the line declares.
@@ -36,7 +42,8 @@ impl Field {
     /// Why a word is not such a field after the lines so far.
     pub fn check(self, word: &[u8], declared: &Declared) -> Result<(), Reason> {
         match self {
-            Field::NewStream(_) | Field::NewStreamWithTask(_) => check_new_name(word, declared),
+            Field::NewInput | Field::NewAsyncIn => check_new_name(word, declared),
+            Field::NewOutput | Field::NewBuffered => check_new_name(word, declared),
             Field::NewGuest => check_new_guest(word, declared),
             Field::Configured => check_configured(word, declared),
             Field::Caller => check_caller(word, declared),

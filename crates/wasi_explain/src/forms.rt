@@ -7,25 +7,13 @@ use crate::fields::Field;
 /// and its words, and after `turn` the kind of the task and its words.
 pub fn line_fields(word: &[u8]) -> Option<&'static [Field]> {
     match word {
-        b"pipe" => Some(&[Field::NewStream(Stream::Input), Field::DeclaredBytes]),
-        b"infile" => Some(&[
-            Field::NewStream(Stream::Input),
-            Field::DeclaredBytes,
-            Field::ReadPlan,
-        ]),
-        b"asyncin" => Some(&[
-            Field::NewStreamWithTask(Stream::Input),
-            Field::DeclaredBytes,
-            Field::ReadPlan,
-        ]),
-        b"outpipe" => Some(&[Field::NewStream(Stream::Output), Field::Room]),
-        b"outfile" | b"stdio" => Some(&[
-            Field::NewStream(Stream::Output),
-            Field::Room,
-            Field::WritePlan,
-        ]),
+        b"pipe" => Some(&[Field::NewInput, Field::DeclaredBytes]),
+        b"infile" => Some(&[Field::NewInput, Field::DeclaredBytes, Field::ReadPlan]),
+        b"asyncin" => Some(&[Field::NewAsyncIn, Field::DeclaredBytes, Field::ReadPlan]),
+        b"outpipe" => Some(&[Field::NewOutput, Field::Room]),
+        b"outfile" | b"stdio" => Some(&[Field::NewOutput, Field::Room, Field::WritePlan]),
         b"buffered" => Some(&[
-            Field::NewStreamWithTask(Stream::Output),
+            Field::NewBuffered,
             Field::Room,
             Field::WritePlan,
             Field::Budget,
