@@ -5,8 +5,16 @@ use crate::reason::Reason;
 /// What a word of a line has to be.
 #[derive(Clone, Copy, Debug, PartialEq, Eq, Drop)]
 pub enum Field {
-    /// The name of the stream that the line declares.
-    NewStream(Stream),
+    /// The name of the input that the line declares.
+    NewInput,
+    /// The same, of an input that a task reads ahead.
+    NewAsyncIn,
+    /// The name of the output that the line declares.
+    NewOutput,
+    /// The same, of an output that buffers for a task.
+    NewBuffered,
+    /// The name of a declared stream whose task has its turn.
+    Task(Stream),
     /// The guest that the line declares.
     NewGuest,
     /// A declared guest that has made no call.
@@ -24,6 +32,7 @@ pub enum Field {
     WritePlan,
     Number,
     Room,
+    Budget,
     Capacity,
     ExitStatus,
     ExitCode,
@@ -33,18 +42,21 @@ impl Field {
     /// Why a word is not such a field after the lines so far.
     pub fn check(self, word: &[u8], declared: &Declared) -> Result<(), Reason> {
         match self {
-            Field::NewStream(_) => check_new_name(word, declared),
+            Field::NewInput | Field::NewAsyncIn => check_new_name(word, declared),
+            Field::NewOutput | Field::NewBuffered => check_new_name(word, declared),
             Field::NewGuest => check_new_guest(word, declared),
             Field::Configured => check_configured(word, declared),
             Field::Caller => check_caller(word, declared),
             Field::Input => check_input(word, declared),
             Field::Output => check_output(word, declared),
+            Field::Task(stream) => check_task(stream, word, declared),
             Field::Bytes => check_bytes(word),
             Field::DeclaredBytes => check_declared_bytes(word),
             Field::ReadPlan => check_read_plan(word),
             Field::WritePlan => check_write_plan(word),
             Field::Number => check_number(word, 0, u64::MAX),
             Field::Room => check_number(word, 0, MOST_BYTES),
+            Field::Budget => check_number(word, 1, MOST_BYTES),
             Field::Capacity => check_number(word, 1, 65536),
             Field::ExitStatus => check_status(word),
             Field::ExitCode => check_number(word, 0, 255),
@@ -163,6 +175,18 @@ fn check_stream(wanted: Stream, name: &[u8], declared: &Declared) -> Result<(), 
         (Stream::Output, None) if is_name(name) => Err(Reason::UnknownOutput),
         (Stream::Input, None) => Err(Reason::NotAnInput),
         (Stream::Output, None) => Err(Reason::NotAnOutput),
+    }
+}
+
+fn check_task(wanted: Stream, name: &[u8], declared: &Declared) -> Result<(), Reason> {
+    if !is_name(name) {
+        return Err(Reason::BadName);
+    }
+    check_stream(wanted, name, declared)?;
+    if declared.has_task(name) {
+        Ok(())
+    } else {
+        Err(Reason::NoTask)
     }
 }
 

@@ -4,26 +4,25 @@ use crate::declared::Stream;
 use crate::fields::Field;
 
 /// What the words of a line after its first one have to be. After `call G` stand the name of a call
-/// and its words.
+/// and its words, and after `turn` the kind of the task and its words.
 pub fn line_fields(word: &[u8]) -> Option<&'static [Field]> {
     match word {
-        b"pipe" => Some(&[Field::NewStream(Stream::Input), Field::DeclaredBytes]),
-        b"infile" => Some(&[
-            Field::NewStream(Stream::Input),
-            Field::DeclaredBytes,
-            Field::ReadPlan,
-        ]),
-        b"outpipe" => Some(&[Field::NewStream(Stream::Output), Field::Room]),
-        b"outfile" | b"stdio" => Some(&[
-            Field::NewStream(Stream::Output),
+        b"pipe" => Some(&[Field::NewInput, Field::DeclaredBytes]),
+        b"infile" => Some(&[Field::NewInput, Field::DeclaredBytes, Field::ReadPlan]),
+        b"asyncin" => Some(&[Field::NewAsyncIn, Field::DeclaredBytes, Field::ReadPlan]),
+        b"outpipe" => Some(&[Field::NewOutput, Field::Room]),
+        b"outfile" | b"stdio" => Some(&[Field::NewOutput, Field::Room, Field::WritePlan]),
+        b"buffered" => Some(&[
+            Field::NewBuffered,
             Field::Room,
             Field::WritePlan,
+            Field::Budget,
         ]),
         b"guest" => Some(&[Field::NewGuest, Field::Input]),
         b"stdout" | b"stderr" => Some(&[Field::Configured, Field::Output]),
         b"capacity" => Some(&[Field::Configured, Field::Capacity]),
         b"call" => Some(&[Field::Caller]),
-        b"capture" | b"deliver" => Some(&[]),
+        b"capture" | b"deliver" | b"turn" => Some(&[]),
         _ => None,
     }
 }
@@ -39,6 +38,15 @@ pub fn call_fields(name: &[u8]) -> Option<&'static [Field]> {
         b"subscribe" | b"ready" | b"block" | b"drop" => Some(&[Field::Number]),
         b"exit" => Some(&[Field::ExitStatus]),
         b"exit-code" => Some(&[Field::ExitCode]),
+        _ => None,
+    }
+}
+
+/// What the words after a task's kind have to be.
+pub fn turn_fields(kind: &[u8]) -> Option<&'static [Field]> {
+    match kind {
+        b"in" => Some(&[Field::Task(Stream::Input)]),
+        b"out" => Some(&[Field::Task(Stream::Output)]),
         _ => None,
     }
 }

@@ -15,6 +15,8 @@ pub enum Reason {
     NoSuchLine,
     #[error("no such call")]
     NoSuchCall,
+    #[error("no such task")]
+    NoSuchTask,
     #[error("word missing")]
     MissingWord,
     #[error("word too many")]
@@ -59,6 +61,10 @@ pub enum Reason {
     UnknownInput,
     #[error("output not declared yet")]
     UnknownOutput,
+    #[error("stream without a task")]
+    NoTask,
+    #[error("polls of a stream that has a task")]
+    PolledTask,
     #[error("guest declared twice")]
     GuestTwice,
     #[error("name declared twice")]

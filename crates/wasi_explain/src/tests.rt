@@ -265,6 +265,41 @@ fn inputs_and_outputs(rt: HostRuntime) -> Result<(), Fail> {
 }
 
 #[test]
+fn streams_with_tasks(rt: HostRuntime) -> Result<(), Fail> {
+    let budget = Reason::OutOfRange {
+        least: 1,
+        most: 1048576,
+    };
+    let bad_lines = [
+        ("asyncin Q 61", 13, Reason::MissingWord),
+        ("asyncin Q 61 lother", 14, Reason::FlushOfInput),
+        ("asyncin P 61 -", 9, Reason::NameTwice),
+        ("buffered Q 5 -", 15, Reason::MissingWord),
+        ("buffered Q 5 - 0", 16, budget),
+        ("buffered A 5 - 5", 10, Reason::NameTwice),
+        ("stdout 1 A", 10, Reason::InputAsOutput),
+        ("turn", 5, Reason::MissingWord),
+        ("turn up A", 6, Reason::NoSuchTask),
+        ("turn in", 8, Reason::MissingWord),
+        ("turn in shared", 9, Reason::BadName),
+        ("turn in N", 9, Reason::UnknownInput),
+        ("turn in P", 9, Reason::NoTask),
+        ("turn in B", 9, Reason::OutputAsInput),
+        ("turn out A", 10, Reason::InputAsOutput),
+        ("turn out O", 10, Reason::NoTask),
+        ("turn out B 0", 12, Reason::ExtraWord),
+        ("call 0 async-stdin", 8, Reason::PolledTask),
+        ("call 0 async-stderr 0", 8, Reason::PolledTask),
+        ("call 0 async-stdout 0", 21, Reason::ExtraWord),
+        ("call 1 async-stdin 0", 20, Reason::ExtraWord),
+    ];
+    let streams = "pipe P -\nasyncin A 61 t1\nbuffered B 5 - 5\noutpipe O 5\n";
+    let guests = "guest 0 A\nstdout 0 B\nstdout 0 O\nstderr 0 B\nguest 1 P\n";
+    let before = format!(in rt.alloc(); "{streams}{guests}turn in A\nturn out B\n")?;
+    check_lines(&rt, rt.alloc(), &before, &bad_lines)
+}
+
+#[test]
 fn guests(rt: HostRuntime) -> Result<(), Fail> {
     let bad_lines = [
         ("guest 0 shared", 7, Reason::GuestTwice),
