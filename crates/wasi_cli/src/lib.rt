@@ -1,0 +1,19 @@
+//! Standard streams as a guest is given them: which stream a kind stands for, whose turn it is on
+//! a stream that several entries share, and the calls and polls of such a stream.
+#![tactic(auto)]
+
+mod kinds;
+mod owner;
+mod shared;
+mod streams;
+mod turns;
+mod units;
+
+pub use kinds::{InKind, OutKind};
+pub use owner::Owner;
+pub use shared::{
+    shared_cancel, shared_check_write, shared_flush, shared_read, shared_skip, shared_write,
+};
+pub use streams::{IsTerminal, P2In, P2Out, PolledIn, PolledOut, StdinStream, StdoutStream};
+pub use turns::Turns;
+pub use units::{AsyncStdinStream, AsyncStdoutStream, Empty, Stderr, Stdin, Stdout};
