@@ -28,22 +28,22 @@ absent_from x who waiting absent other = list_any-append (λ y. same y x) waitin
 stays_once : (waiting : List Owner) (who : Owner) → NoRepeats waiting → is_waiting who waiting ≡ false → NoRepeats (waiting ++ who ∷ [])
 stays_once [] who once absent = (refl, tt)
 stays_once (x ∷ waiting) who once absent =
-  let apart = neither (same x who) (is_waiting who waiting) absent in
-  (absent_from x who waiting once.0 (laws.symm who x ∙ apart.0), stays_once waiting who once.1 apart.1)
+    let apart = neither (same x who) (is_waiting who waiting) absent in
+    (absent_from x who waiting once.0 (laws.symm who x ∙ apart.0), stays_once waiting who once.1 apart.1)
 
 -- some of them gone
 still_absent : (keeps : Owner → Bool) (who : Owner) (waiting : List Owner) → is_waiting who waiting ≡ false → is_waiting who (filter keeps waiting) ≡ false
 still_absent keeps who [] absent = refl
 still_absent keeps who (x ∷ waiting) absent =
-  let apart = neither (same x who) (is_waiting who waiting) absent in
-  let rest = still_absent keeps who waiting apart.1 in
-  elim (keeps x) as (λ b. is_waiting who (cond b (x ∷ filter keeps waiting) (filter keeps waiting)) ≡ false) [ true ↦ both_not _ _ apart.0 rest | false ↦ rest ]
+    let apart = neither (same x who) (is_waiting who waiting) absent in
+    let rest = still_absent keeps who waiting apart.1 in
+    elim (keeps x) as (λ b. is_waiting who (cond b (x ∷ filter keeps waiting) (filter keeps waiting)) ≡ false) [ true ↦ both_not _ _ apart.0 rest | false ↦ rest ]
 
 still_once : (keeps : Owner → Bool) (waiting : List Owner) → NoRepeats waiting → NoRepeats (filter keeps waiting)
 still_once keeps [] once = tt
 still_once keeps (x ∷ waiting) once =
-  let rest = still_once keeps waiting once.1 in
-  elim (keeps x) as (λ b. NoRepeats (cond b (x ∷ filter keeps waiting) (filter keeps waiting))) [ true ↦ (still_absent keeps x waiting once.0, rest) | false ↦ rest ]
+    let rest = still_once keeps waiting once.1 in
+    elim (keeps x) as (λ b. NoRepeats (cond b (x ∷ filter keeps waiting) (filter keeps waiting))) [ true ↦ (still_absent keeps x waiting once.0, rest) | false ↦ rest ]
 
 pub no_turn : (waiting : List Owner) → waiting ≡ [] → IsTurn (record { holder = None; waiting = waiting })
 no_turn waiting none = record { once = subst NoRepeats (sym none) tt; apart = tt; held = none }
@@ -73,8 +73,8 @@ queues (Some holder) waiting who other turn = joins holder who waiting other tur
 pub passes : (holder next : Option Owner) (waiting rest : List Owner) → MatchOption next ((waiting ≡ []) × (rest ≡ [])) (λ first. waiting ≡ first ∷ rest) → IsTurn (record { holder = holder; waiting = waiting }) → IsTurn (record { holder = next; waiting = rest })
 passes holder None waiting rest by turn = no_turn rest by.1
 passes holder (Some first) waiting rest by turn =
-  let once = subst NoRepeats by turn.once in
-  record { once = once.1; apart = once.0; held = tt }
+    let once = subst NoRepeats by turn.once in
+    record { once = once.1; apart = once.0; held = tt }
 
 pub leaves : (holder : Option Owner) (waiting : List Owner) (keeps : Owner → Bool) → IsTurn (record { holder = holder; waiting = waiting }) → IsTurn (record { holder = holder; waiting = filter keeps waiting })
 leaves None waiting keeps turn = no_turn (filter keeps waiting) (ap (filter keeps) turn.held)

@@ -1,3 +1,6 @@
 pub mod Turns
 pub mod Shared
 pub mod Kinds
+pub mod Operations
+pub mod Polls
+pub mod StdoutPolls

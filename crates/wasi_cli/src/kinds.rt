@@ -39,11 +39,8 @@ impl IsTerminal for InKind {
     fn is_terminal(&self) -> bool {
         match *self {
             InKind::Shared { terminal } => terminal,
-            InKind::Empty
-            | InKind::Closed
-            | InKind::Pipe(_)
-            | InKind::File(_)
-            | InKind::Async(_) => false,
+            InKind::Empty | InKind::Closed | InKind::Pipe(_) | InKind::File(_) | InKind::Async(_) =>
+                false,
         }
     }
 }

@@ -2,18 +2,24 @@
 //! a stream that several entries share, and the calls and polls of such a stream.
 #![tactic(auto)]
 
+mod handle;
 mod kinds;
+mod operations;
+mod outcome;
 mod owner;
 mod shared;
+mod stdout_handle;
 mod streams;
 mod turns;
 mod units;
 
+pub use handle::StdioHandle;
 pub use kinds::{InKind, OutKind};
 pub use owner::Owner;
 pub use shared::{
     shared_cancel, shared_check_write, shared_flush, shared_read, shared_skip, shared_write,
 };
+pub use stdout_handle::StdoutHandle;
 pub use streams::{IsTerminal, P2In, P2Out, PolledIn, PolledOut, StdinStream, StdoutStream};
 pub use turns::Turns;
 pub use units::{AsyncStdinStream, AsyncStdoutStream, Empty, Stderr, Stdin, Stdout};

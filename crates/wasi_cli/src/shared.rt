@@ -93,5 +93,4 @@ pub fn shared_flush<K: Sink + Drop>(
 /// Does nothing: the host keeps a shared stream open for its other owners.
 pub fn shared_cancel<S: Source + Drop>(_turns: &Turns, _stream: &mut AsyncReadStream<S>)
     ensures { _stream.new ≡ _stream.old }
-{
-}
+{}
