@@ -2,6 +2,7 @@
 //! a stream that several entries share, and the calls and polls of such a stream.
 #![tactic(auto)]
 
+mod forwards;
 mod handle;
 mod kinds;
 mod operations;
