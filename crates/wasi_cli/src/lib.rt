@@ -11,6 +11,8 @@ mod owner;
 mod shared;
 mod stdout_handle;
 mod streams;
+#[cfg(test)]
+mod tests;
 mod turns;
 mod units;
 
