@@ -1,1 +1,2 @@
 pub mod TurnFacts
+pub mod TurnLaws

@@ -1,6 +1,6 @@
 -- A turn record stays one through each change.
-use Rattle.std.proofs.Common.{◌≡◌, ℕ, ◌<◌, Bool, true, false, not, cond, ◌&&◌, ◌||◌, List, [], ◌∷◌, ◌++◌, length, Option, Some, None, IfSome, IfNone, IsSome, MatchOption, refl, sym, ap, subst, ◌∙◌, arith, rules}
-use Rattle.std.specs.List.{filter, list_any}
+use Rattle.std.proofs.Common.{◌≡◌, Bool, true, false, cond, ◌||◌, List, [], ◌∷◌, ◌++◌, Option, Some, None, MatchOption, refl, sym, ap, subst, ◌∙◌, rules}
+use Rattle.std.specs.List.{filter}
 use Rattle.std.specs.Cmp.{IsEquivalence}
 use Rattle.std.specs.Option.{option_eq}
 use Rattle.std.proofs.lemmas.List.Folds.{list_any-append}
@@ -14,11 +14,11 @@ laws = record {
   congr = λ x y z e. search rules;
 }
 
-neither : (a b : Bool) → (a || b) ≡ false → (a ≡ false) × (b ≡ false)
+pub neither : (a b : Bool) → (a || b) ≡ false → (a ≡ false) × (b ≡ false)
 neither false b e = (refl, e)
 neither true b e = absurd (search (e, rules))
 
-both_not : (a b : Bool) → a ≡ false → b ≡ false → (a || b) ≡ false
+pub both_not : (a b : Bool) → a ≡ false → b ≡ false → (a || b) ≡ false
 both_not a b ea eb = ap (λ v. v || b) ea ∙ eb
 
 -- one more at the end

@@ -4,3 +4,4 @@ pub mod Kinds
 pub mod Operations
 pub mod Polls
 pub mod StdoutPolls
+pub mod Promises

@@ -3,7 +3,7 @@ use Rattle.std.specs.Prelude.{ℕ, zero, suc, min, if◌then◌else◌, List, le
 use Rattle.wasi_base.specs.declared.stream_error.StreamError.{StreamError}
 use Rattle.wasi_base.specs.declared.stream_error.StreamError.TheVariants.{Closed, LastOperationFailed, Trap, OutOfMemory}
 use Rattle.wasi_streams.specs.Reader.{Reader, reader_is_ready, reader_read, after_reader_read}
-use Rattle.wasi_streams.specs.Writer.{Writer, writer_is_ready, writer_check_write, after_writer_check_write, writer_write, after_writer_write, writer_flush, after_writer_flush}
+use Rattle.wasi_streams.specs.Writer.{Writer, writer_is_ready, writer_check_write, after_writer_check_write, after_writer_write, writer_flush, after_writer_flush}
 use Rattle.wasi_cli.specs.declared.outcome.Outcome.{Outcome}
 use Rattle.wasi_cli.specs.declared.outcome.Outcome.TheVariants.{Waits, Gives, Closes, Fails}
 

@@ -1,5 +1,5 @@
 -- One poll of a handle on a shared stream.
-use Rattle.std.specs.Prelude.{ℕ, Bool, true, false, Option, Some, None}
+use Rattle.std.specs.Prelude.{Bool, true, false, Option, Some, None}
 use Rattle.wasi_base.specs.declared.polled.Polled.{Polled}
 use Rattle.wasi_base.specs.declared.polled.Polled.TheVariants.{Pending, Ready, Failed}
 use Rattle.wasi_cli.specs.declared.handle.StdioHandle.{StdioHandle}

@@ -8,7 +8,7 @@ use Rattle.wasi_cli.specs.declared.owner.Owner.{Owner}
 use Rattle.wasi_cli.specs.declared.stdout_handle.StdoutHandle.{StdoutHandle}
 use Rattle.wasi_cli.specs.Turns.{Turn}
 use Rattle.wasi_cli.specs.Operations.{write_outcome, after_write, flush_outcome, after_flush, flushed_outcome, after_flushed}
-use Rattle.wasi_cli.specs.Polls.{Poll, Standing, one_poll, or_none, with_none, stopped}
+use Rattle.wasi_cli.specs.Polls.{Poll, Standing, one_poll, with_none, stopped}
 
 -- a poll of the handle within it
 abbrev pub of_handle : {A S : Type 0} → Bool → Poll StdioHandle A S → Poll StdoutHandle A S

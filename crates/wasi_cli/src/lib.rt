@@ -5,6 +5,7 @@
 mod forwards;
 mod handle;
 mod kinds;
+mod laws;
 mod operations;
 mod outcome;
 mod owner;
@@ -18,6 +19,7 @@ mod units;
 
 pub use handle::StdioHandle;
 pub use kinds::{InKind, OutKind};
+pub use laws::{freed_owners_are_gone, turns_pass_in_order};
 pub use owner::Owner;
 pub use shared::{
     shared_cancel, shared_check_write, shared_flush, shared_read, shared_skip, shared_write,

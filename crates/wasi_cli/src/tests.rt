@@ -29,32 +29,34 @@ const FOURTH: Owner = Owner {
     number: 7,
 };
 
+fn asks(rt: &impl Abort, turns: &mut Turns, who: Owner, want: bool) {
+    assert_eq!(rt; turns.ask(who), Ok(want));
+}
+
+fn frees(rt: &impl Abort, turns: &mut Turns, who: Owner, next: Option<Owner>) {
+    turns.free(who);
+    assert_eq!(rt; turns.holder(), next);
+}
+
 #[test]
 fn owners_take_turns_in_order(rt: HostRuntime) -> Result<(), Fail> {
     let mut turns = Turns::new(rt.alloc());
-    assert_eq!(rt; turns.holder(), None);
-    turns.free(FIRST);
-    assert_eq!(rt; turns.ask(FIRST)?, true);
-    assert_eq!(rt; turns.ask(FIRST)?, true);
-    assert_eq!(rt; turns.ask(SECOND)?, false);
-    assert_eq!(rt; turns.ask(THIRD)?, false);
-    assert_eq!(rt; turns.ask(FOURTH)?, false);
-    assert_eq!(rt; turns.ask(SECOND)?, false);
+    frees(&rt, &mut turns, FIRST, None);
+    asks(&rt, &mut turns, FIRST, true);
+    asks(&rt, &mut turns, FIRST, true);
+    asks(&rt, &mut turns, SECOND, false);
+    asks(&rt, &mut turns, THIRD, false);
+    asks(&rt, &mut turns, FOURTH, false);
+    asks(&rt, &mut turns, SECOND, false);
     // one that waits leaves, and asks again behind all
-    turns.free(SECOND);
-    assert_eq!(rt; turns.holder(), Some(FIRST));
-    assert_eq!(rt; turns.ask(SECOND)?, false);
-    turns.free(FIRST);
-    assert_eq!(rt; turns.holder(), Some(THIRD));
+    frees(&rt, &mut turns, SECOND, Some(FIRST));
+    asks(&rt, &mut turns, SECOND, false);
+    frees(&rt, &mut turns, FIRST, Some(THIRD));
     // who gave its turn on has none to give
-    turns.free(FIRST);
-    assert_eq!(rt; turns.holder(), Some(THIRD));
-    turns.free(THIRD);
-    assert_eq!(rt; turns.holder(), Some(FOURTH));
-    turns.free(FOURTH);
-    assert_eq!(rt; turns.holder(), Some(SECOND));
-    turns.free(SECOND);
-    assert_eq!(rt; turns.holder(), None);
+    frees(&rt, &mut turns, FIRST, Some(THIRD));
+    frees(&rt, &mut turns, THIRD, Some(FOURTH));
+    frees(&rt, &mut turns, FOURTH, Some(SECOND));
+    frees(&rt, &mut turns, SECOND, None);
     Ok(())
 }
 

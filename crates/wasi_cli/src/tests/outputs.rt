@@ -1,7 +1,9 @@
 ghost use Rattle.std.specs.Prelude.{◌<◌};
 
 use super::{FIRST, SECOND, THIRD};
-use crate::{StdioHandle, StdoutHandle, Turns, shared_check_write, shared_flush, shared_write};
+use crate::{
+    Owner, StdioHandle, StdoutHandle, Turns, shared_check_write, shared_flush, shared_write,
+};
 use bytes::Bytes;
 use std::alloc::Global;
 use std::process::Abort;
@@ -9,237 +11,424 @@ use std::test::Fail;
 use wasi_base::{IoKind, MemSink, OutOfMemory, Polled, SinkPlan, StreamError, TrapText};
 use wasi_streams::{AsyncWriteStream, WriterTurn};
 
-fn writer(
-    alloc: Global,
-    budget: u64,
-    plan: &[SinkPlan],
-) -> Result<AsyncWriteStream<MemSink>, OutOfMemory>
+/// An output that entries share.
+#[derive(Drop)]
+struct Shared {
+    turns: Turns,
+    stream: AsyncWriteStream<MemSink>,
+}
+
+fn shared_output(alloc: Global, budget: u64, plan: &[SinkPlan]) -> Result<Shared, OutOfMemory>
     requires { 0 < budget }
 {
     let sink = MemSink::new(alloc, 64, Vec::from_slice(alloc, plan)?)?;
-    AsyncWriteStream::new(alloc, budget, sink)
+    let stream = AsyncWriteStream::new(alloc, budget, sink)?;
+    Ok(Shared {
+        turns: Turns::new(alloc),
+        stream,
+    })
 }
 
-fn handle() -> StdoutHandle {
-    StdoutHandle {
-        handle: StdioHandle::Ready,
-        flushing: false,
-    }
+fn state(handle: StdioHandle, flushing: bool) -> StdoutHandle {
+    StdoutHandle { handle, flushing }
+}
+
+fn fresh() -> StdoutHandle {
+    state(StdioHandle::Ready, false)
+}
+
+fn writes(
+    rt: &impl Abort,
+    alloc: Global,
+    output: &mut Shared,
+    who: Owner,
+    handle: &mut StdoutHandle,
+    piece: &[u8],
+    want: Polled<u64>,
+) {
+    let answer = handle.poll_write(alloc, who, &mut output.turns, &mut output.stream, piece);
+    assert_eq!(rt; answer, Ok(want));
+}
+
+fn flushes(
+    rt: &impl Abort,
+    output: &mut Shared,
+    who: Owner,
+    handle: &mut StdoutHandle,
+    want: Polled<()>,
+    after: StdoutHandle,
+) {
+    let answer = handle.poll_flush(who, &mut output.turns, &mut output.stream);
+    assert_eq!(rt; answer, Ok(want));
+    assert_eq!(rt; *handle, after);
+}
+
+fn turns_to(rt: &impl Abort, output: &mut Shared, want: WriterTurn) {
+    assert_eq!(rt; output.stream.turn(), want);
+}
+
+fn held_by(rt: &impl Abort, output: &Shared, want: Option<Owner>) {
+    assert_eq!(rt; output.turns.holder(), want);
+}
+
+fn took(rt: &impl Abort, output: &Shared, want: &[u8]) {
+    assert_eq!(rt; output.stream.sink().taken(), want);
+}
+
+fn frees(output: &mut Shared, who: Owner) {
+    output.turns.free(who);
+}
+
+// plain calls trap
+fn refuses(rt: &impl Abort, output: &mut Shared) {
+    let checks = StreamError::Trap(TrapText::ConcurrentCheckWrites);
+    assert_eq!(rt;
+        shared_check_write(&output.turns, &mut output.stream),
+        Err(checks)
+    );
+    let writes = StreamError::Trap(TrapText::ConcurrentWrites);
+    let bytes = Bytes::from_static(b"x");
+    assert_eq!(rt;
+        shared_write(&output.turns, &mut output.stream, bytes),
+        Err(writes)
+    );
+    let flushes = StreamError::Trap(TrapText::ConcurrentFlushes);
+    assert_eq!(rt;
+        shared_flush(&output.turns, &mut output.stream),
+        Err(flushes)
+    );
+}
+
+// plain calls are the stream's own
+fn takes(rt: &impl Abort, output: &mut Shared, room: u64) {
+    assert_eq!(rt;
+        shared_check_write(&output.turns, &mut output.stream),
+        Ok(room)
+    );
+    let bytes = Bytes::from_static(b"g");
+    assert_eq!(rt;
+        shared_write(&output.turns, &mut output.stream, bytes),
+        Ok(())
+    );
+    assert_eq!(rt; shared_flush(&output.turns, &mut output.stream), Ok(()));
 }
 
 #[test]
 fn a_poll_writes_what_is_permitted(rt: HostRuntime) -> Result<(), Fail> {
     let alloc = rt.alloc();
-    let mut turns = Turns::new(alloc);
-    let mut stream = writer(alloc, 4, &[])?;
-    let mut first = handle();
-    assert_eq!(rt;
-        first.poll_write(alloc, FIRST, &mut turns, &mut stream, b"abcdef")?,
-        Polled::Ready(4)
+    let mut output = shared_output(alloc, 4, &[])?;
+    let mut first = fresh();
+    writes(
+        &rt,
+        alloc,
+        &mut output,
+        FIRST,
+        &mut first,
+        b"abcdef",
+        Polled::Ready(4),
     );
-    assert_eq!(rt;
-        first.poll_write(alloc, FIRST, &mut turns, &mut stream, b"ef")?,
-        Polled::Pending
+    writes(
+        &rt,
+        alloc,
+        &mut output,
+        FIRST,
+        &mut first,
+        b"ef",
+        Polled::Pending,
     );
-    let flushes = StreamError::Trap(TrapText::ConcurrentFlushes);
-    assert_eq!(rt; shared_flush(&turns, &mut stream), Err(flushes));
-    let checks = StreamError::Trap(TrapText::ConcurrentCheckWrites);
-    assert_eq!(rt; shared_check_write(&turns, &mut stream), Err(checks));
-    let writes = StreamError::Trap(TrapText::ConcurrentWrites);
-    assert_eq!(rt;
-        shared_write(&turns, &mut stream, Bytes::from_static(b"x")),
-        Err(writes)
+    refuses(&rt, &mut output);
+    turns_to(&rt, &mut output, WriterTurn::Took(4));
+    writes(
+        &rt,
+        alloc,
+        &mut output,
+        FIRST,
+        &mut first,
+        b"ef",
+        Polled::Ready(2),
     );
-    assert_eq!(rt; stream.turn(), WriterTurn::Took(4));
-    assert_eq!(rt;
-        first.poll_write(alloc, FIRST, &mut turns, &mut stream, b"ef")?,
-        Polled::Ready(2)
+    let second_poll = state(StdioHandle::Locked, true);
+    flushes(
+        &rt,
+        &mut output,
+        FIRST,
+        &mut first,
+        Polled::Pending,
+        second_poll,
     );
-    assert_eq!(rt;
-        first.poll_flush(FIRST, &mut turns, &mut stream)?,
-        Polled::Pending
-    );
-    assert_eq!(rt; stream.turn(), WriterTurn::Took(2));
-    assert_eq!(rt; stream.turn(), WriterTurn::Flushed);
-    assert_eq!(rt;
-        first.poll_flush(FIRST, &mut turns, &mut stream)?,
-        Polled::Ready(())
+    turns_to(&rt, &mut output, WriterTurn::Took(2));
+    turns_to(&rt, &mut output, WriterTurn::Flushed);
+    flushes(
+        &rt,
+        &mut output,
+        FIRST,
+        &mut first,
+        Polled::Ready(()),
+        fresh(),
     );
     assert_eq!(rt; first.poll_shutdown(), Polled::Ready(()));
-    assert_eq!(rt; first, handle());
-    assert_eq!(rt; turns.holder(), None);
-    // plain calls are the stream's own again
-    assert_eq!(rt; shared_check_write(&turns, &mut stream), Ok(4));
-    assert_eq!(rt;
-        shared_write(&turns, &mut stream, Bytes::from_static(b"g")),
-        Ok(())
-    );
-    assert_eq!(rt; shared_flush(&turns, &mut stream), Ok(()));
-    assert_eq!(rt; stream.turn(), WriterTurn::Took(1));
-    assert_eq!(rt; stream.sink().taken(), b"abcdefg".as_slice());
+    held_by(&rt, &output, None);
+    takes(&rt, &mut output, 4);
+    turns_to(&rt, &mut output, WriterTurn::Took(1));
+    took(&rt, &output, b"abcdefg");
     Ok(())
 }
 
 #[test]
 fn a_flush_waits_again_behind_the_others(rt: HostRuntime) -> Result<(), Fail> {
     let alloc = rt.alloc();
-    let mut turns = Turns::new(alloc);
-    let mut stream = writer(alloc, 2, &[])?;
-    let mut first = handle();
-    let mut second = handle();
-    let mut third = handle();
-    assert_eq!(rt;
-        first.poll_write(alloc, FIRST, &mut turns, &mut stream, b"ab")?,
-        Polled::Ready(2)
+    let mut output = shared_output(alloc, 2, &[])?;
+    let mut first = fresh();
+    let mut second = fresh();
+    let mut third = fresh();
+    writes(
+        &rt,
+        alloc,
+        &mut output,
+        FIRST,
+        &mut first,
+        b"ab",
+        Polled::Ready(2),
     );
-    assert_eq!(rt;
-        first.poll_flush(FIRST, &mut turns, &mut stream)?,
-        Polled::Pending
+    let first_poll = state(StdioHandle::Locked, false);
+    flushes(
+        &rt,
+        &mut output,
+        FIRST,
+        &mut first,
+        Polled::Pending,
+        first_poll,
     );
-    assert_eq!(rt; first.flushing, false);
-    assert_eq!(rt;
-        second.poll_write(alloc, SECOND, &mut turns, &mut stream, b"cd")?,
-        Polled::Pending
+    writes(
+        &rt,
+        alloc,
+        &mut output,
+        SECOND,
+        &mut second,
+        b"cd",
+        Polled::Pending,
     );
-    assert_eq!(rt;
-        third.poll_write(alloc, THIRD, &mut turns, &mut stream, b"ef")?,
-        Polled::Pending
+    writes(
+        &rt,
+        alloc,
+        &mut output,
+        THIRD,
+        &mut third,
+        b"ef",
+        Polled::Pending,
     );
-    assert_eq!(rt; stream.turn(), WriterTurn::Took(2));
-    assert_eq!(rt;
-        first.poll_flush(FIRST, &mut turns, &mut stream)?,
-        Polled::Pending
+    turns_to(&rt, &mut output, WriterTurn::Took(2));
+    let second_poll = state(StdioHandle::Locking, true);
+    flushes(
+        &rt,
+        &mut output,
+        FIRST,
+        &mut first,
+        Polled::Pending,
+        second_poll,
     );
-    assert_eq!(rt;
-        first,
-        StdoutHandle {
-            handle: StdioHandle::Locking,
-            flushing: true
-        }
+    held_by(&rt, &output, Some(SECOND));
+    turns_to(&rt, &mut output, WriterTurn::Flushed);
+    flushes(
+        &rt,
+        &mut output,
+        FIRST,
+        &mut first,
+        Polled::Pending,
+        second_poll,
     );
-    assert_eq!(rt; turns.holder(), Some(SECOND));
-    assert_eq!(rt; stream.turn(), WriterTurn::Flushed);
-    assert_eq!(rt;
-        first.poll_flush(FIRST, &mut turns, &mut stream)?,
-        Polled::Pending
+    writes(
+        &rt,
+        alloc,
+        &mut output,
+        SECOND,
+        &mut second,
+        b"cd",
+        Polled::Ready(2),
     );
-    assert_eq!(rt;
-        second.poll_write(alloc, SECOND, &mut turns, &mut stream, b"cd")?,
-        Polled::Ready(2)
+    writes(
+        &rt,
+        alloc,
+        &mut output,
+        THIRD,
+        &mut third,
+        b"ef",
+        Polled::Pending,
     );
-    assert_eq!(rt;
-        third.poll_write(alloc, THIRD, &mut turns, &mut stream, b"ef")?,
-        Polled::Pending
+    turns_to(&rt, &mut output, WriterTurn::Took(2));
+    writes(
+        &rt,
+        alloc,
+        &mut output,
+        THIRD,
+        &mut third,
+        b"ef",
+        Polled::Ready(2),
     );
-    assert_eq!(rt; stream.turn(), WriterTurn::Took(2));
-    assert_eq!(rt;
-        third.poll_write(alloc, THIRD, &mut turns, &mut stream, b"ef")?,
-        Polled::Ready(2)
+    turns_to(&rt, &mut output, WriterTurn::Took(2));
+    flushes(
+        &rt,
+        &mut output,
+        FIRST,
+        &mut first,
+        Polled::Ready(()),
+        fresh(),
     );
-    assert_eq!(rt; stream.turn(), WriterTurn::Took(2));
-    assert_eq!(rt;
-        first.poll_flush(FIRST, &mut turns, &mut stream)?,
-        Polled::Ready(())
-    );
-    assert_eq!(rt; stream.sink().taken(), b"abcdef".as_slice());
+    took(&rt, &output, b"abcdef");
     Ok(())
 }
 
 #[test]
 fn a_flush_is_left_in_its_second_poll(rt: HostRuntime) -> Result<(), Fail> {
     let alloc = rt.alloc();
-    let mut turns = Turns::new(alloc);
-    let mut stream = writer(alloc, 4, &[])?;
-    let mut first = handle();
-    let mut second = handle();
-    assert_eq!(rt;
-        first.poll_write(alloc, FIRST, &mut turns, &mut stream, b"ab")?,
-        Polled::Ready(2)
+    let mut output = shared_output(alloc, 4, &[])?;
+    let mut first = fresh();
+    let mut second = fresh();
+    writes(
+        &rt,
+        alloc,
+        &mut output,
+        FIRST,
+        &mut first,
+        b"ab",
+        Polled::Ready(2),
     );
-    assert_eq!(rt;
-        first.poll_flush(FIRST, &mut turns, &mut stream)?,
-        Polled::Pending
+    let second_poll = state(StdioHandle::Locked, true);
+    flushes(
+        &rt,
+        &mut output,
+        FIRST,
+        &mut first,
+        Polled::Pending,
+        second_poll,
     );
-    assert_eq!(rt;
-        first,
-        StdoutHandle {
-            handle: StdioHandle::Locked,
-            flushing: true
-        }
+    // a write waits while the flush is pending, and leaves the handle its flush and its turn
+    writes(
+        &rt,
+        alloc,
+        &mut output,
+        FIRST,
+        &mut first,
+        b"c",
+        Polled::Pending,
     );
-    // a write while the flush is pending waits, and the handle keeps its turn and its flush
-    assert_eq!(rt;
-        first.poll_write(alloc, FIRST, &mut turns, &mut stream, b"c")?,
-        Polled::Pending
+    flushes(
+        &rt,
+        &mut output,
+        FIRST,
+        &mut first,
+        Polled::Pending,
+        second_poll,
     );
-    assert_eq!(rt;
-        second.poll_write(alloc, SECOND, &mut turns, &mut stream, b"d")?,
-        Polled::Pending
+    writes(
+        &rt,
+        alloc,
+        &mut output,
+        SECOND,
+        &mut second,
+        b"d",
+        Polled::Pending,
     );
     // its entry goes, and the stream ends the flush for the next one
-    turns.free(FIRST);
-    assert_eq!(rt; turns.holder(), Some(SECOND));
-    assert_eq!(rt;
-        second.poll_write(alloc, SECOND, &mut turns, &mut stream, b"d")?,
-        Polled::Pending
+    frees(&mut output, FIRST);
+    held_by(&rt, &output, Some(SECOND));
+    writes(
+        &rt,
+        alloc,
+        &mut output,
+        SECOND,
+        &mut second,
+        b"d",
+        Polled::Pending,
     );
-    assert_eq!(rt; stream.turn(), WriterTurn::Took(2));
-    assert_eq!(rt; stream.turn(), WriterTurn::Flushed);
-    assert_eq!(rt;
-        second.poll_write(alloc, SECOND, &mut turns, &mut stream, b"d")?,
-        Polled::Ready(1)
+    turns_to(&rt, &mut output, WriterTurn::Took(2));
+    turns_to(&rt, &mut output, WriterTurn::Flushed);
+    writes(
+        &rt,
+        alloc,
+        &mut output,
+        SECOND,
+        &mut second,
+        b"d",
+        Polled::Ready(1),
     );
-    assert_eq!(rt; stream.turn(), WriterTurn::Took(1));
-    assert_eq!(rt; stream.sink().taken(), b"abd".as_slice());
+    turns_to(&rt, &mut output, WriterTurn::Took(1));
+    took(&rt, &output, b"abd");
     Ok(())
 }
 
 #[test]
 fn a_fault_of_a_flush_closes_the_handle(rt: HostRuntime) -> Result<(), Fail> {
     let alloc = rt.alloc();
-    let mut turns = Turns::new(alloc);
-    let mut stream = writer(alloc, 4, &[SinkPlan::Fail(IoKind::Other)])?;
-    let mut first = handle();
-    let mut second = handle();
-    assert_eq!(rt;
-        first.poll_write(alloc, FIRST, &mut turns, &mut stream, b"ab")?,
-        Polled::Ready(2)
+    let mut output = shared_output(alloc, 4, &[SinkPlan::Fail(IoKind::Other)])?;
+    let mut first = fresh();
+    let mut second = fresh();
+    let closed = state(StdioHandle::Closed, false);
+    writes(
+        &rt,
+        alloc,
+        &mut output,
+        FIRST,
+        &mut first,
+        b"ab",
+        Polled::Ready(2),
     );
-    assert_eq!(rt;
-        first.poll_flush(FIRST, &mut turns, &mut stream)?,
-        Polled::Pending
+    let second_poll = state(StdioHandle::Locked, true);
+    flushes(
+        &rt,
+        &mut output,
+        FIRST,
+        &mut first,
+        Polled::Pending,
+        second_poll,
     );
-    assert_eq!(rt; stream.turn(), WriterTurn::Fault(IoKind::Other));
-    assert_eq!(rt;
-        first.poll_flush(FIRST, &mut turns, &mut stream)?,
-        Polled::Failed(IoKind::Other)
+    turns_to(&rt, &mut output, WriterTurn::Fault(IoKind::Other));
+    flushes(
+        &rt,
+        &mut output,
+        FIRST,
+        &mut first,
+        Polled::Failed(IoKind::Other),
+        closed,
     );
-    assert_eq!(rt;
-        first,
-        StdoutHandle {
-            handle: StdioHandle::Closed,
-            flushing: false
-        }
+    held_by(&rt, &output, None);
+    writes(
+        &rt,
+        alloc,
+        &mut output,
+        FIRST,
+        &mut first,
+        b"c",
+        Polled::Ready(0),
     );
-    assert_eq!(rt; turns.holder(), None);
-    assert_eq!(rt;
-        first.poll_write(alloc, FIRST, &mut turns, &mut stream, b"c")?,
-        Polled::Ready(0)
+    flushes(
+        &rt,
+        &mut output,
+        FIRST,
+        &mut first,
+        Polled::Ready(()),
+        closed,
     );
-    assert_eq!(rt;
-        first.poll_flush(FIRST, &mut turns, &mut stream)?,
-        Polled::Ready(())
+    writes(
+        &rt,
+        alloc,
+        &mut output,
+        SECOND,
+        &mut second,
+        b"",
+        Polled::Ready(0),
     );
-    assert_eq!(rt;
-        second.poll_write(alloc, SECOND, &mut turns, &mut stream, b"")?,
-        Polled::Ready(0)
-    );
-    assert_eq!(rt; second.handle, StdioHandle::Ready);
+    assert_eq!(rt; second, fresh());
     // the fault was told, so the others find the end
-    assert_eq!(rt;
-        second.poll_write(alloc, SECOND, &mut turns, &mut stream, b"c")?,
-        Polled::Ready(0)
+    writes(
+        &rt,
+        alloc,
+        &mut output,
+        SECOND,
+        &mut second,
+        b"c",
+        Polled::Ready(0),
     );
-    assert_eq!(rt; second.handle, StdioHandle::Closed);
+    assert_eq!(rt; second, closed);
     Ok(())
 }

@@ -1,8 +1,6 @@
 -- Who doesn't hold the turn leaves those that wait.
-use Rattle.std.proofs.Common.{◌≡◌, ◌∙◌, ap, sym, not, rules, subst, List}
+use Rattle.std.proofs.Common.{◌≡◌, ◌∙◌, ap, sym, not, rules, subst}
 use Rattle.std.proofs.lemmas.Fn.{filter_same}
-use Rattle.std.specs.List.{filter}
-use Rattle.wasi_cli.specs.declared.owner.Owner.{Owner}
 use Rattle.wasi_cli.specs.Turns.{Turn, IsTurn, without, same}
 use Rattle.wasi_cli.proofs.TurnFacts.{leaves, left_by}
 use Rattle.wasi_cli.proofs.turns.Turns.free.Goals as goal
