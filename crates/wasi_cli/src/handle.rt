@@ -1,11 +1,9 @@
 ghost use Rattle.std.specs.Prelude.{◌≡◌, [], IfOk, OnErr};
-ghost use Rattle.wasi_cli.specs.Operations.{read_outcome, after_read, write_outcome, after_write, flush_outcome, after_flush, flushed_outcome, after_flushed};
+ghost use Rattle.wasi_cli.specs.Operations.{read_outcome, after_read, flush_outcome, after_flush, flushed_outcome, after_flushed};
 ghost use Rattle.wasi_cli.specs.Polls.{start_of, begun_handle, begun_turn, poll_answer, handle_after, turn_after, or_none, one_poll, with_none, stopped};
 ghost use Rattle.wasi_cli.specs.declared.outcome.Start.TheVariants.{Waits};
 
-use crate::operations::{
-    flush_once_ready, flushed_once_ready, read_once_ready, write_once_permitted,
-};
+use crate::operations::{flush_once_ready, flushed_once_ready, read_once_ready};
 use crate::outcome::{Outcome, Start};
 use crate::{Owner, Turns};
 use bytes::Bytes;
@@ -39,8 +37,8 @@ pub(crate) fn or_none<T: Drop>(answer: Polled<Option<T>>, none: T) -> Polled<T>
 }
 
 impl StdioHandle {
-    // asks for the turn, unless the handle is closed
-    fn begin(&mut self, who: Owner, turns: &mut Turns) -> Result<Start, OutOfMemory>
+    /// Asks for the turn, unless the handle is closed.
+    pub(crate) fn begin(&mut self, who: Owner, turns: &mut Turns) -> Result<Start, OutOfMemory>
         ensures start { IfOk result (λ start. start ≡ start_of self.old turns.old who) }
         ensures handle { IfOk result (λ start. self.new ≡ begun_handle start self.old) }
         ensures turn { IfOk result (λ start. turns.new ≡ begun_turn start turns.old who) }
@@ -63,8 +61,8 @@ impl StdioHandle {
         }
     }
 
-    // keeps the turn where the operation waits, and frees it else
-    fn settle<T: Drop>(
+    /// Keeps the turn where the operation waits, and gives it on else.
+    pub(crate) fn settle<T: Drop>(
         &mut self,
         who: Owner,
         turns: &mut Turns,
@@ -117,29 +115,6 @@ impl StdioHandle {
             Ok(Start::Waits) => Ok(Polled::Pending),
             Ok(Start::Runs) => match read_once_ready(alloc, stream, room) {
                 Ok(outcome) => Ok(or_none(self.settle(who, turns, outcome), Bytes::new())),
-                Err(error) => Err(error),
-            },
-            Err(error) => Err(error),
-        }
-    }
-
-    // one poll that writes what the stream permits
-    pub(crate) fn poll_write<K: Sink + Drop>(
-        &mut self,
-        alloc: Global,
-        who: Owner,
-        turns: &mut Turns,
-        stream: &mut AsyncWriteStream<K>,
-        piece: &[u8],
-    ) -> Result<Polled<u64>, OutOfMemory>
-        ensures poll { IfOk result (λ answer. record { answer = answer; handle = self.new; turn = turns.new; stream = stream.new } ≡ with_none 0 (one_poll self.old who turns.old stream.old (write_outcome stream.old piece.now) (after_write stream.old piece.now))) }
-        ensures memory { OnErr result (record { handle = self.new; turn = turns.new; stream = stream.new } ≡ stopped self.old who turns.old stream.old) }
-    {
-        match self.begin(who, turns) {
-            Ok(Start::Ended) => Ok(Polled::Ready(0)),
-            Ok(Start::Waits) => Ok(Polled::Pending),
-            Ok(Start::Runs) => match write_once_permitted(alloc, stream, piece) {
-                Ok(outcome) => Ok(or_none(self.settle(who, turns, outcome), 0)),
                 Err(error) => Err(error),
             },
             Err(error) => Err(error),

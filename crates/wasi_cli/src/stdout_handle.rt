@@ -3,6 +3,8 @@ ghost use Rattle.wasi_base.specs.declared.polled.Polled.TheVariants.{Ready};
 ghost use Rattle.wasi_cli.specs.StdoutPolls.{write_poll, write_stopped, second_poll, flush_poll, flush_stopped};
 
 use crate::handle::or_none;
+use crate::operations::write_once_permitted;
+use crate::outcome::Start;
 use crate::{Owner, StdioHandle, Turns};
 use std::alloc::Global;
 use wasi_base::{OutOfMemory, Polled, Sink};
@@ -37,7 +39,15 @@ impl StdoutHandle {
         if piece.is_empty() {
             return Ok(Polled::Ready(0));
         }
-        self.handle.poll_write(alloc, who, turns, stream, piece)
+        match self.handle.begin(who, turns) {
+            Ok(Start::Ended) => Ok(Polled::Ready(0)),
+            Ok(Start::Waits) => Ok(Polled::Pending),
+            Ok(Start::Runs) => match write_once_permitted(alloc, stream, piece) {
+                Ok(outcome) => Ok(or_none(self.handle.settle(who, turns, outcome), 0)),
+                Err(error) => Err(error),
+            },
+            Err(error) => Err(error),
+        }
     }
 
     // the second poll of a flush; it goes on as long as this is pending
