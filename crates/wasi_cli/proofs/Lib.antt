@@ -1,0 +1,2 @@
+pub mod TurnFacts
+pub mod TurnLaws
