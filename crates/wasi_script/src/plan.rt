@@ -29,10 +29,7 @@ impl ReadPlan {
     pub fn new(alloc: Global, items: Vec<Plan>) -> Result<ReadPlan, Refusal>
         ensures { Reads result (plan_with items.items) }
     {
-        if items.len() > 1024 {
-            return Err(Refusal::Invalid);
-        }
-        let items = Box::new(alloc, items)?;
+        let items = Box::new(alloc, short_enough(items)?)?;
         Ok(ReadPlan { items })
     }
 
@@ -73,10 +70,7 @@ impl WritePlan {
     pub fn new(alloc: Global, items: Vec<SinkPlan>) -> Result<WritePlan, Refusal>
         ensures { Reads result (plan_with items.items) }
     {
-        if items.len() > 1024 {
-            return Err(Refusal::Invalid);
-        }
-        let items = Box::new(alloc, items)?;
+        let items = Box::new(alloc, short_enough(items)?)?;
         Ok(WritePlan { items })
     }
 
@@ -94,6 +88,17 @@ impl WritePlan {
     {
         let items = Box::new(alloc, read_items(alloc, text)?)?;
         Ok(WritePlan { items })
+    }
+}
+
+// The items, where a plan may have so many.
+fn short_enough<T: Drop>(items: Vec<T>) -> Result<Vec<T>, Refusal>
+    ensures { ReadsItems result (plan_with items.items) }
+{
+    if items.len() <= 1024 {
+        Ok(items)
+    } else {
+        Err(Refusal::Invalid)
     }
 }
 
