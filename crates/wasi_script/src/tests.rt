@@ -4,6 +4,7 @@ ghost use Rattle.std.specs.Prelude.{◌≡◌, length, IfOk};
 
 mod calls;
 mod refusals;
+mod tasks;
 
 use crate::{
     ByteString, Input, InputDeclaration, Line, Name, Output, OutputDeclaration, ReadPlan, Refusal,

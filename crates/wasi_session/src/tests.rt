@@ -1,5 +1,7 @@
 ghost use Rattle.std.specs.Prelude.{None};
 
+mod tasks;
+
 use crate::{run_program, run_session};
 use std::alloc::Global;
 use std::process::Abort;

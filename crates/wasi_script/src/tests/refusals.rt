@@ -40,7 +40,7 @@ fn a_bad_line_is_told_by_its_number(rt: HostRuntime) -> Result<(), Fail> {
         "capacity 0 1",
         "stdout 0 empty",
         "stderr 0 sink",
-        "asyncin A - -",
+        "tree A",
     ];
     for line in bad_lines {
         check_bad(&rt, rt.alloc(), "# note\n\n", line, 3)?;
@@ -101,7 +101,7 @@ fn a_bad_output_is_told_by_its_number(rt: HostRuntime) -> Result<(), Fail> {
         "stdio Q 1048577 -",
         "stdio Q 5 - -",
         "stdio Q@tty 5 -",
-        "buffered Q 5 - 5",
+        "buffered Q 5 5",
     ];
     for line in bad_lines {
         check_bad(&rt, rt.alloc(), "pipe P 61\noutpipe O 5\n", line, 3)?;
