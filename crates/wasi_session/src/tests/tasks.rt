@@ -55,8 +55,10 @@ fn a_fault_of_a_sink_is_told_once(rt: HostRuntime) -> Result<(), Fail> {
 #[test]
 fn the_greatest_budget_is_written_at_once(rt: HostRuntime) -> Result<(), Fail> {
     let alloc = rt.alloc();
-    let mut transcript =
-        Vec::from_slice(alloc, b"ok\nok\nok\nhandle 0\nok\ncount 0\ntook 1048576\noutput B ")?;
+    let mut transcript = Vec::from_slice(
+        alloc,
+        b"ok\nok\nok\nhandle 0\nok\ncount 0\ntook 1048576\noutput B ",
+    )?;
     transcript.extend_from_slice(&vec![in alloc; b'7'; 2097152]?)?;
     transcript.extend_from_slice(b"\n")?;
     shows_long(
