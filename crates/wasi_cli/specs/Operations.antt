@@ -15,6 +15,7 @@ IsTold (Err (LastOperationFailed kind)) = Unit {0}
 IsTold (Err (Trap text)) = ⊥
 IsTold (Err OutOfMemory) = ⊥
 
+-- the last two rows are never met: no operation traps, and want of memory is answered apart
 abbrev pub outcome_of : {A : Type 0} → Result A StreamError → Outcome A
 outcome_of (Ok a) = Gives a
 outcome_of (Err Closed) = Closes
