@@ -138,14 +138,6 @@ unsaid (stream.Stdio out) e so_far = tt
 unsaid stream.Closed e so_far = tt
 unsaid stream.Sink e so_far = tt
 
-unbuffered : (s : OutStream) → nat_eq (sort_of s) 2 ≡ false → buffer_in (Some s) ≡ None
-unbuffered (stream.Buffered w) e = absurd (true≢false e)
-unbuffered (stream.Pipe pipe) e = refl
-unbuffered (stream.File out) e = refl
-unbuffered (stream.Stdio out) e = refl
-unbuffered stream.Closed e = refl
-unbuffered stream.Sink e = refl
-
 module _ (which : Standard) (owner : Owner) (own : Own) where
   buffer_keeps : (it : EntryCall) (e : StreamEntry) (w : Writer Outlet) → Keeps (Some (it, e)) (told_by it which owner e own (stream.Buffered w)) (Some (stream.Buffered w)) (Some (left_by it which owner e (stream.Buffered w)))
   buffer_keeps (on.Write bytes) at.Plain w = λ so_far has. write_keeps w.sink w.budget bytes w.buffered w.flushing (nat_lt (budget_left w) (length bytes)) w.trouble so_far has
@@ -250,23 +242,22 @@ faults_all : (name : List ℕ) (steps : List Line) (host : Host) (told : Told') 
 faults_all name [] host told = tt
 faults_all name (step ∷ steps) host told = (step_holds Faults each_fault name step host (given_for (size_read step host) told), faults_all name steps (step_host step host told) (step_told step host told))
 
+-- what holds of an output, where it is one that buffers
+on_buffer : (P : Writer Outlet → Type 0) (s : OutStream) → ((w : Writer Outlet) → s ≡ stream.Buffered w → P w) → OnBuffer (buffer_in (Some s)) P
+on_buffer P (stream.Buffered w) holds = holds w refl
+on_buffer P (stream.Pipe pipe) holds = tt
+on_buffer P (stream.File out) holds = tt
+on_buffer P (stream.Stdio out) holds = tt
+on_buffer P stream.Closed holds = tt
+on_buffer P stream.Sink holds = tt
+
 buffer_has : (o : Option OutStream) (accepted : List ℕ) → Has o accepted → OnBuffer (buffer_in o) (λ w. HasAccepted w.trouble w.sink.taken w.buffered accepted)
 buffer_has None accepted has = tt
-buffer_has (Some (stream.Buffered w)) accepted has = has
-buffer_has (Some (stream.Pipe pipe)) accepted has = tt
-buffer_has (Some (stream.File out)) accepted has = tt
-buffer_has (Some (stream.Stdio out)) accepted has = tt
-buffer_has (Some stream.Closed) accepted has = tt
-buffer_has (Some stream.Sink) accepted has = tt
+buffer_has (Some s) accepted has = on_buffer (λ w. HasAccepted w.trouble w.sink.taken w.buffered accepted) s (λ w is. subst (λ (s : OutStream). Has (Some s) accepted) is has)
 
 buffer_printed : (o : Option OutStream) (shown : Option (List ℕ)) → shown ≡ option_map taken_of o → OnBuffer (buffer_in o) (λ w. shown ≡ Some w.sink.taken)
 buffer_printed None shown e = tt
-buffer_printed (Some (stream.Buffered w)) shown e = e
-buffer_printed (Some (stream.Pipe pipe)) shown e = tt
-buffer_printed (Some (stream.File out)) shown e = tt
-buffer_printed (Some (stream.Stdio out)) shown e = tt
-buffer_printed (Some stream.Closed) shown e = tt
-buffer_printed (Some stream.Sink) shown e = tt
+buffer_printed (Some s) shown e = on_buffer (λ w. shown ≡ Some w.sink.taken) s (λ w is. e ∙ ap (λ (s : OutStream). Some (taken_of s)) is)
 
 pub buffers_keep : BuffersKeep
 buffers_keep name steps told = record {
