@@ -1,0 +1,2 @@
+pub mod FeedingFacts
+pub mod MovingFacts

@@ -1,0 +1,4 @@
+pub mod Chain
+pub mod Feeding
+pub mod Kinds
+pub mod Link
