@@ -1,2 +1,3 @@
 pub mod FeedingFacts
 pub mod MovingFacts
+pub mod ReplyFacts

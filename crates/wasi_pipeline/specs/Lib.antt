@@ -1,4 +1,7 @@
+pub mod Bounds
 pub mod Chain
 pub mod Feeding
+pub mod Grammar
 pub mod Kinds
 pub mod Link
+pub mod Steps

@@ -1,5 +1,6 @@
-ghost use Rattle.std.specs.Prelude.{◌≡◌, ◌++◌, ◌-◌, ◌≤◌, length, IfOk, OnOk, OnErr};
+ghost use Rattle.std.specs.Prelude.{◌≡◌, ◌++◌, ◌-◌, ◌≤◌, length, false, None, IfOk, OnOk, OnErr};
 ghost use Rattle.wasi_pipeline.specs.Chain.{Turned, is_done, pumped, stopped, turned, room_of, holding, drain_reply, after_drain, new_channel};
+ghost use Rattle.wasi_pipeline.specs.Feeding.{OnFailed};
 ghost use Rattle.wasi_pipeline.specs.Kinds.{moving, made_bytes};
 
 use crate::kind::{Made, StageKind};
@@ -61,6 +62,8 @@ impl Channel {
         ensures reply { IfOk result (λ reply. reply ≡ drain_reply most self.old) }
         ensures after { OnOk result (self.new ≡ after_drain most self.old) }
         ensures err { OnErr result (self.new ≡ self.old) }
+        ensures writer { self.new.writer_open ≡ self.old.writer_open }
+        ensures no_fault { IfOk result (λ reply. OnFailed reply ⊥) }
     {
         if self.is_done() {
             return Ok(Reply::Told(Told::Closed));
@@ -71,9 +74,25 @@ impl Channel {
 }
 
 impl Stage {
+    pub(crate) fn new(alloc: Global, kind: StageKind, bound: u32) -> Result<Stage, OutOfMemory>
+        requires least { 2 ≤ bound }
+        requires most { bound ≤ 65536 }
+        ensures { IfOk result (λ stage. stage ≡ record { kind = kind; last = None; stopped = false; output = new_channel bound }) }
+    {
+        let output = Channel::new(alloc, bound)?;
+        Ok(Stage {
+            kind,
+            last: None,
+            stopped: false,
+            output,
+        })
+    }
+
     /// What the stage does at its turn, with the link that it reads.
     pub(crate) fn turn(&mut self, input: &mut Channel, turn: Turn) -> Reply
-        ensures { record { reply = result; input = input.new; stage = self.new } ≡ turned turn input.old self.old }
+        ensures turned { record { reply = result; input = input.new; stage = self.new } ≡ turned turn input.old self.old }
+        ensures writer { input.new.writer_open ≡ input.old.writer_open }
+        ensures no_fault { OnFailed result ⊥ }
     {
         match turn {
             Turn::Pump(most) => self.pump(input, most),
@@ -82,7 +101,9 @@ impl Stage {
     }
 
     fn pump(&mut self, input: &mut Channel, most: u32) -> Reply
-        ensures { record { reply = result; input = input.new; stage = self.new } ≡ pumped most input.old self.old }
+        ensures turned { record { reply = result; input = input.new; stage = self.new } ≡ pumped most input.old self.old }
+        ensures writer { input.new.writer_open ≡ input.old.writer_open }
+        ensures no_fault { OnFailed result ⊥ }
     {
         if self.stopped {
             return Reply::Ended;
@@ -105,7 +126,9 @@ impl Stage {
     }
 
     fn stop(&mut self, input: &mut Channel) -> Reply
-        ensures { record { reply = result; input = input.new; stage = self.new } ≡ stopped input.old self.old }
+        ensures turned { record { reply = result; input = input.new; stage = self.new } ≡ stopped input.old self.old }
+        ensures writer { input.new.writer_open ≡ input.old.writer_open }
+        ensures no_fault { OnFailed result ⊥ }
     {
         if self.stopped {
             return Reply::Ended;
