@@ -7,6 +7,7 @@ use Rattle.wasi_pipeline.specs.declared.kind.StageKind.TheVariants.{Copy, Upper,
 use Rattle.wasi_pipeline.specs.declared.stage.Turn.TheVariants.{Pump, Stop}
 use Rattle.wasi_pipeline.specs.declared.line.Line.{Line}
 use Rattle.wasi_pipeline.specs.declared.line.Line.TheVariants as line
+use Rattle.wasi_pipeline.specs.declared.declarations.Declared.{Declared}
 use Rattle.wasi_pipeline.specs.declared.reading.Reading.{Reading}
 use Rattle.wasi_pipeline.specs.declared.reading.Reading.TheVariants.{Note, Step, Invalid}
 
@@ -47,11 +48,6 @@ reading_of [] = Note
 reading_of (byte ∷ bytes) = cond (nat_eq byte 35) Note (step_or_invalid (meaning_by forms (words_of (byte ∷ bytes))))
 
 -- what the lines so far declared: link 0, how many stages, and whether a step followed them
-pub record Declared : Type 0 where
-  pub linked : Bool
-  pub stages : ℕ
-  pub begun : Bool
-
 abbrev pub nothing_declared : Declared
 nothing_declared = record { linked = false; stages = 0; begun = false }
 

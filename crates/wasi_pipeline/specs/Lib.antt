@@ -4,4 +4,6 @@ pub mod Feeding
 pub mod Grammar
 pub mod Kinds
 pub mod Link
+pub mod Program
+pub mod Run
 pub mod Steps

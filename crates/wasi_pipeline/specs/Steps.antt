@@ -87,10 +87,6 @@ HasBound (line.Feed most) = Unit {0}
 HasBound (line.Turn stage turn) = Unit {0}
 HasBound (line.Drain most) = Unit {0}
 
-abbrev pub HaveBounds : List Line → Type 0
-HaveBounds [] = Unit {0}
-HaveBounds (step ∷ steps) = HasBound step × HaveBounds steps
-
 -- while link 0 may be written, the input rests between steps
 abbrev pub RestsFor : Option Channel → Shared → Type 0
 RestsFor None shared = shared ≡ resting shared.deliveries

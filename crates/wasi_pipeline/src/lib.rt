@@ -2,16 +2,25 @@
 #![tactic(auto)]
 
 mod chain;
+mod chain_run;
+mod declarations;
 mod feed;
 mod kind;
 mod line;
 mod link;
+mod parse;
 mod pipeline;
+mod program;
 mod reading;
+mod run;
 mod stage;
 
+pub use chain_run::{PipelineError, run_chain};
 pub use kind::StageKind;
 pub use line::Line;
 pub use link::Link;
+pub use parse::{ScriptError, parse_script};
 pub use pipeline::Pipeline;
+pub use program::run_pipeline;
+pub use run::run_steps;
 pub use stage::Turn;
