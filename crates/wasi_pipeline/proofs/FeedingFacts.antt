@@ -1,17 +1,15 @@
 -- What a delivery into link 0 comes to.
-use Rattle.std.proofs.Common.{◌≡◌, ℕ, zero, suc, ◌<◌, ◌++◌, min, true, false, List, length, Option, refl, arith, ◌∙◌, sym, ap}
+use Rattle.std.proofs.Common.{◌≡◌, ℕ, zero, suc, ◌<◌, ◌++◌, min, true, List, length, Option, refl, arith, ◌∙◌}
 use Rattle.wasi_base.specs.declared.io_kind.IoKind.{IoKind}
 use Rattle.wasi_base.specs.Source.{Told, Given, Gives}
 use Rattle.wasi_base.specs.Source as given
-use Rattle.wasi_reply.specs.declared.reply.Told.TheVariants as told
 use Rattle.wasi_reply.specs.declared.reply.Reply.{Reply}
-use Rattle.wasi_reply.specs.declared.reply.Reply.TheVariants as reply
 use Rattle.wasi_stdin.specs.Shared.{given_at, outcome_of}
 use Rattle.wasi_stdin.specs.declared.mode.Mode.{Mode}
 use Rattle.wasi_stdin.specs.declared.mode.Mode.TheVariants.{Idle, Asked, Held, Failed, Closed}
 use Rattle.wasi_stdin.specs.declared.answer.Outcome.TheVariants as outcome
 use Rattle.wasi_pipeline.specs.Link.{LinkState}
-use Rattle.wasi_pipeline.specs.Chain.{counted, holding, room_of}
+use Rattle.wasi_pipeline.specs.Chain.{counted, room_of}
 use Rattle.wasi_pipeline.specs.Feeding.{Fed, IsFed, fed, fed_by, size_fed}
 use Rattle.wasi_pipeline.specs.declared.stage.Channel.{Channel}
 

@@ -1,5 +1,9 @@
+pub mod CarryFacts
 pub mod FeedingFacts
 pub mod LoopFacts
+pub mod MadeFacts
 pub mod MovingFacts
 pub mod ReplyFacts
 pub mod ScriptFacts
+pub mod Standing
+pub mod StepFacts

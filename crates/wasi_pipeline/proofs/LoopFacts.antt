@@ -1,16 +1,14 @@
 -- A run so far: what is told, and what the rest of it tells, are the whole.
 use Rattle.std.specs.Prelude.{take, zero, suc, Result, Ok, Err, OnErr}
-use Rattle.std.proofs.lemmas.List.{take_min}
-use Rattle.std.proofs.Common.{refl, min, ◌≡◌, ℕ, ◌+◌, ◌-◌, ◌<◌, ◌≤◌, List, [], ◌∷◌, ◌++◌, length, get_or, drop, Option, Some, None, ap, add-one, arith, ◌∙◌, sym, subst, append-nil, append_assoc}
+use Rattle.std.proofs.Common.{refl, ◌≡◌, ℕ, ◌+◌, ◌<◌, ◌≤◌, List, [], ◌∷◌, ◌++◌, length, get_or, drop, Option, Some, None, ap, add-one, arith, ◌∙◌, sym, subst, append-nil, append_assoc}
 use Rattle.std.proofs.Math.Seq.{drop-cons}
 use Rattle.std.proofs.lemmas.Grind.{common_steps}
 use Rattle.wasi_base.specs.Source.{Told, Given, Gives}
 use Rattle.wasi_reply.specs.declared.reply.Reply.{Reply}
 use Rattle.wasi_reply.specs.Reply.{text_of_all, reply_line}
 use Rattle.wasi_pipeline.specs.Bounds.{HaveBounds}
-use Rattle.wasi_pipeline.specs.Chain.{turned_at, drained}
 use Rattle.wasi_pipeline.specs.Feeding.{fed, size_fed}
-use Rattle.wasi_pipeline.specs.Steps.{HasBound, IsStep, Pipe, Stepped, new_pipe, of_chain, of_fed, size_on, size_read, stepped, stepped_by}
+use Rattle.wasi_pipeline.specs.Steps.{HasBound, IsStep, Pipe, Stepped, new_pipe, of_fed, size_on, size_read, stepped, stepped_by}
 use Rattle.wasi_pipeline.specs.Run.{LeftByFirst, given_for, pipe_end, replies, step_told, stepped_with, told_end, told_for}
 use Rattle.wasi_pipeline.specs.declared.stage.Channel.{Channel}
 use Rattle.wasi_pipeline.specs.declared.stage.Stage.{Stage}

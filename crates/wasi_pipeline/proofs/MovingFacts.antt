@@ -1,10 +1,9 @@
 -- Where a stage stops taking bytes.
-use Rattle.std.proofs.Common.{◌≡◌, ℕ, zero, suc, ◌<◌, ◌-◌, ◌+◌, ◌++◌, Bool, true, false, cond, List, [], ◌∷◌, length, Option, Some, None, refl, arith, ◌∙◌, sym}
+use Rattle.std.proofs.Common.{◌≡◌, ℕ, zero, suc, ◌<◌, false, List, [], ◌∷◌, length, Option, Some, None, refl, arith}
 use Rattle.std.proofs.lemmas.Bool.Decides.{nat_tests}
-use Rattle.std.proofs.lemmas.Grind.{common_steps}
 use Rattle.std.specs.Prelude.{nat_le, slice_get}
 use Rattle.wasi_pipeline.specs.Link.{LinkState}
-use Rattle.wasi_pipeline.specs.Kinds.{becomes, moving, stays, Moved}
+use Rattle.wasi_pipeline.specs.Kinds.{becomes, moving, stays}
 use Rattle.wasi_pipeline.specs.declared.kind.StageKind.{StageKind}
 
 pub link_is : (link : LinkState) (bound : ℕ) (held : List ℕ) → link.bound ≡ bound → link.held ≡ held → link ≡ record { bound = bound; held = held }

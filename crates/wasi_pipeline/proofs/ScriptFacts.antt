@@ -1,5 +1,5 @@
 -- The steps of a script, line by line.
-use Rattle.std.proofs.Common.{◌≡◌, ℕ, ◌+◌, Bool, true, false, List, [], ◌∷◌, ◌++◌, refl, ap, sym, ◌∙◌, append_assoc, append-nil, cond}
+use Rattle.std.proofs.Common.{◌≡◌, ℕ, ◌+◌, Bool, true, false, List, [], ◌∷◌, ◌++◌, refl, ap, sym, ◌∙◌, append_assoc, cond}
 use Rattle.wasi_pipeline.specs.Bounds.{HaveBounds}
 use Rattle.wasi_pipeline.specs.Steps.{HasBound}
 use Rattle.wasi_pipeline.specs.declared.line.Line.{Line}

@@ -1,7 +1,6 @@
 -- The bounds of the links that steps declare.
-use Rattle.std.specs.Prelude.{ℕ, ◌≤◌, List, [], ◌∷◌}
+use Rattle.std.specs.Prelude.{ℕ, List, [], ◌∷◌}
 use Rattle.wasi_pipeline.specs.declared.line.Line.{Line}
-use Rattle.wasi_pipeline.specs.declared.line.Line.TheVariants as line
 use Rattle.wasi_pipeline.specs.declared.reading.Reading.{Reading}
 use Rattle.wasi_pipeline.specs.declared.reading.Reading.TheVariants.{Note, Step, Invalid}
 use Rattle.wasi_pipeline.specs.declared.parse.ScriptError.{ScriptError}

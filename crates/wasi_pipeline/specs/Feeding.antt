@@ -1,5 +1,5 @@
 -- A delivery of the input into link 0.
-use Rattle.std.specs.Prelude.{◌≡◌, ℕ, zero, suc, ◌<◌, ◌≤◌, ◌+◌, min, Bool, true, false, cond, ◌&&◌, List, [], ◌++◌, length, take, Option, None}
+use Rattle.std.specs.Prelude.{◌≡◌, ℕ, zero, suc, ◌<◌, min, false, cond, ◌&&◌, [], ◌++◌, length, Option, None}
 use Rattle.wasi_base.specs.Source.{Told, Given, Gives}
 use Rattle.wasi_base.specs.Source as given
 use Rattle.wasi_reply.specs.declared.reply.Told.TheVariants as told

@@ -1,5 +1,5 @@
 -- Which pipeline scripts are valid, and the steps that they stand for.
-use Rattle.std.specs.Prelude.{◌≡◌, ℕ, ◌+◌, Bool, true, false, cond, not, ◌&&◌, nat_eq, nat_le, nat_lt, List, [], ◌∷◌, ◌++◌, length, Option, Some, None, codes}
+use Rattle.std.specs.Prelude.{◌≡◌, ℕ, ◌+◌, Bool, true, false, cond, not, ◌&&◌, nat_eq, nat_le, nat_lt, List, [], ◌∷◌, Option, Some, None, codes}
 use Rattle.std.specs.Str.{bytes_eq}
 use Rattle.wasi_words.specs.Fields.{Form, lines_of, meaning_by, number_between, with_first, with_last, words_of}
 use Rattle.wasi_pipeline.specs.declared.kind.StageKind.{StageKind}
@@ -105,3 +105,8 @@ steps_of (Bad number) = []
 abbrev pub IsGood : Parsed → Type 0
 IsGood (Steps steps) = Unit {0}
 IsGood (Bad number) = ⊥
+
+-- each step may stand after those before it
+abbrev pub AllStand : Declared → List Line → Type 0
+AllStand so_far [] = Unit {0}
+AllStand so_far (step ∷ steps) = (may_stand so_far step ≡ true) × AllStand (declared_after so_far step) steps

@@ -4,6 +4,7 @@ use Rattle.std.specs.Str.{bytes_eq}
 use Rattle.wasi_base.specs.Source.{Told}
 use Rattle.wasi_base.specs.Sink.{with_more}
 use Rattle.wasi_commands.specs.Reading.{IsReadWhole, IsReadPast, IsReadInPart}
+use Rattle.wasi_pipeline.specs.Conservation.{ConservesAtEachStep}
 use Rattle.wasi_pipeline.specs.Grammar.{parsed, Bad, IsGood, steps_of}
 use Rattle.wasi_pipeline.specs.Run.{transcript, told_after_run}
 use Rattle.wasi_pipeline.specs.declared.chain_run.PipelineError.{PipelineError}
@@ -24,6 +25,8 @@ pub record IsDone (script : List ℕ) (input : Told) (taken_before taken_after :
   pub good : IsGood (parsed script)
   pub out : taken_after ≡ with_more taken_before (transcript (steps_of (parsed script)) input)
   pub stdin : told_after ≡ Some (told_after_run (steps_of (parsed script)) input)
+  -- no byte is lost or doubled, at each moment of the run
+  pub conserves : ConservesAtEachStep (steps_of (parsed script)) input
 
 -- which answer comes of which script
 abbrev pub ScriptRead : Result (Unit {0}) PipelineError → Told → Option Told → Type 0

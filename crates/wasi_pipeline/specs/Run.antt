@@ -1,5 +1,5 @@
 -- A run of steps over a source that tells: its replies, and what it leaves.
-use Rattle.std.specs.Prelude.{◌≡◌, ℕ, zero, suc, ◌≤◌, ◌<◌, List, [], ◌∷◌, length, take, Option, Some}
+use Rattle.std.specs.Prelude.{◌≡◌, ℕ, zero, suc, ◌≤◌, List, [], ◌∷◌, length, take, Option, Some}
 use Rattle.wasi_base.specs.Source.{Told, Given, gives, told_after}
 use Rattle.wasi_base.specs.Source as given
 use Rattle.wasi_reply.specs.declared.reply.Reply.{Reply}

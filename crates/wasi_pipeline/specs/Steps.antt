@@ -1,7 +1,6 @@
 -- A step of a pipeline, and a run of steps.
-use Rattle.std.specs.Prelude.{◌≡◌, ℕ, ◌<◌, ◌≤◌, ◌-◌, cond, nat_eq, Bool, true, false, List, [], ◌∷◌, ◌++◌, Option, Some, None}
-use Rattle.std.specs.List.{flat_map}
-use Rattle.wasi_base.specs.Source.{Told, Given, Gives, gives, told_after}
+use Rattle.std.specs.Prelude.{◌≡◌, ℕ, ◌<◌, ◌≤◌, ◌-◌, true, false, List, [], ◌∷◌, ◌++◌, Option, Some, None}
+use Rattle.wasi_base.specs.Source.{Told, Given, Gives}
 use Rattle.wasi_reply.specs.declared.reply.Reply.{Reply}
 use Rattle.wasi_stdin.specs.Shared.{Shared}
 use Rattle.wasi_pipeline.specs.Chain.{Chain, closed, done, new_channel, turned_at, drained}

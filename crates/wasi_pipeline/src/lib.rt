@@ -6,6 +6,7 @@ mod chain_run;
 mod declarations;
 mod feed;
 mod kind;
+mod laws;
 mod line;
 mod link;
 mod parse;
@@ -17,6 +18,7 @@ mod stage;
 
 pub use chain_run::{PipelineError, run_chain};
 pub use kind::StageKind;
+pub use laws::valid_runs_conserve;
 pub use line::Line;
 pub use link::Link;
 pub use parse::{ScriptError, parse_script};

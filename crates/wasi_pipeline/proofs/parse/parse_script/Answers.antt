@@ -1,9 +1,8 @@
-use Rattle.std.proofs.Common.{◌≡◌, ◌+◌, ◌∙◌, ◌∷◌, ◌++◌, [], sym, arith}
+use Rattle.std.proofs.Common.{◌≡◌, ◌+◌, ◌∙◌, ◌∷◌, sym, arith}
 use Rattle.std.specs.Prelude.{nat_eq}
 use Rattle.std.proofs.lemmas.List.Splits.{length-slice_split}
 use Rattle.std.proofs.lemmas.List.Sums.{count_by-le-length}
 use Rattle.wasi_words.specs.Fields.{lines_of}
-use Rattle.wasi_pipeline.specs.Bounds.{HaveBounds}
 use Rattle.wasi_pipeline.specs.Grammar.{reading_of, reading_after, parsed}
 use Rattle.wasi_pipeline.specs.declared.reading.Reading.TheVariants.{Step}
 use Rattle.wasi_pipeline.proofs.ScriptFacts.{IsReadTo, after_none, read_step, read_step_stands, one_more_bound}

@@ -1,4 +1,4 @@
-use Rattle.std.proofs.Common.{◌≡◌, ◌+◌, ◌∙◌, get_or, refl, sym, arith}
+use Rattle.std.proofs.Common.{◌≡◌, ◌+◌, get_or, refl, arith}
 use Rattle.wasi_pipeline.specs.declared.line.Line.{Line}
 use Rattle.wasi_pipeline.specs.declared.line.Line.TheVariants as line_of
 use Rattle.wasi_pipeline.proofs.LoopFacts.{go_on, at_end, one_after, left_by_first, on_err, bound_at, at_place}

@@ -1,8 +1,8 @@
-use Rattle.std.proofs.Common.{◌≡◌, ℕ, ◌+◌, ◌-◌, ◌<◌, ◌++◌, length, arith, Some, None, sym, ◌∙◌}
+use Rattle.std.proofs.Common.{◌≡◌, ◌-◌, ◌<◌, length, arith, Some, None}
 use Rattle.std.proofs.lemmas.Grind.{common_steps}
 use Rattle.std.specs.Prelude.{slice_get}
 use Rattle.wasi_pipeline.specs.Chain.{room_of}
-use Rattle.wasi_pipeline.specs.Kinds.{moving, stays, becomes, made_bytes}
+use Rattle.wasi_pipeline.specs.Kinds.{becomes}
 use Rattle.wasi_pipeline.proofs.MovingFacts.{link_is, nothing_left, none_asked, no_room}
 use Rattle.wasi_pipeline.proofs.stage.move_bytes.Goals as goal
 

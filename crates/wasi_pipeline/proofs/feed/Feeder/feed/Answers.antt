@@ -1,4 +1,4 @@
-use Rattle.std.proofs.Common.{◌≡◌, ◌<◌, ◌∙◌, true, refl, sym, ap, arith}
+use Rattle.std.proofs.Common.{◌≡◌, ◌∙◌, true, sym, ap, arith}
 use Rattle.wasi_pipeline.specs.Feeding.{fed_by, size_fed}
 use Rattle.wasi_pipeline.proofs.FeedingFacts.{gave_in, fault_in, size_is, gave_is, is_fed}
 use Rattle.wasi_pipeline.proofs.feed.Feeder.feed.Goals as goal
