@@ -15,6 +15,8 @@ mod program;
 mod reading;
 mod run;
 mod stage;
+#[cfg(test)]
+mod tests;
 
 pub use chain_run::{PipelineError, run_chain};
 pub use kind::StageKind;
