@@ -1,4 +1,5 @@
 pub mod CarryFacts
+pub mod EndFacts
 pub mod FeedingFacts
 pub mod LoopFacts
 pub mod MadeFacts

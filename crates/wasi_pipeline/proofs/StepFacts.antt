@@ -9,7 +9,7 @@ use Rattle.wasi_base.specs.Source.{Told, Given, given_by, told_by, gives, told_a
 use Rattle.wasi_base.specs.Source as given
 use Rattle.wasi_pipeline.specs.Chain.{Turned, after_moving, closed, counted, done, is_done, new_channel, room_of, turned, turned_at, with_output}
 use Rattle.wasi_reply.specs.declared.reply.Reply.TheVariants as reply
-use Rattle.wasi_pipeline.specs.Conservation.{Carries, CarriesIn, ValidRunsConserve, bytes_shown}
+use Rattle.wasi_pipeline.specs.Conservation.{Conserves, Carries, CarriesIn, ValidRunsConserve, bytes_shown}
 use Rattle.wasi_pipeline.specs.Feeding.{Fed, fed, fed_by, size_fed, unfed}
 use Rattle.wasi_pipeline.specs.Grammar.{AllStand, declared_after, may_stand, nothing_declared}
 use Rattle.wasi_pipeline.specs.Kinds.{made, moving}
@@ -149,7 +149,7 @@ fed_kept (suc n) told put channel stages out within carries =
     given_kept (gives told (suc n)) put channel stages out (let short = given_short told.plan told.left (suc n) in omega (arith, short, within)) carries
 
 -- ---- a step
-not_begun : (linked begun room : Bool) → (linked && (not begun && room)) ≡ true → begun ≡ false
+pub not_begun : (linked begun room : Bool) → (linked && (not begun && room)) ≡ true → begun ≡ false
 not_begun true false room is = refl
 not_begun true true room is = absurd (cc)
 not_begun false begun room is = absurd (cc)
@@ -216,7 +216,10 @@ first_stand zero steps so_far stand = tt
 first_stand (suc count) [] so_far stand = tt
 first_stand (suc count) (step ∷ steps) so_far stand = (stand.0, first_stand count steps (declared_after so_far step) stand.1)
 
-pub valid_runs_conserve : ValidRunsConserve
-valid_runs_conserve steps input stand count =
-    let end = kept_run (take count steps) new_pipe input [] [] nothing_declared (first_stand count steps nothing_declared stand) (record { carries = (refl, refl, refl); still = λ _. (refl, refl) }) in
+pub run_conserves : (steps : List Line) (input : Told) → AllStand nothing_declared steps → Conserves steps input
+run_conserves steps input stand =
+    let end = kept_run steps new_pipe input [] [] nothing_declared stand (record { carries = (refl, refl, refl); still = λ _. (refl, refl) }) in
     record { put = end.more; given = end.left; carried = end.carries }
+
+pub valid_runs_conserve : ValidRunsConserve
+valid_runs_conserve steps input stand count = run_conserves (take count steps) input (first_stand count steps nothing_declared stand)

@@ -1,5 +1,6 @@
 pub mod Bounds
 pub mod Chain
+pub mod Completion
 pub mod Conservation
 pub mod Feeding
 pub mod Grammar

@@ -4,6 +4,7 @@ use Rattle.std.specs.Str.{bytes_eq}
 use Rattle.wasi_base.specs.Source.{Told}
 use Rattle.wasi_base.specs.Sink.{with_more}
 use Rattle.wasi_commands.specs.Reading.{IsReadWhole, IsReadPast, IsReadInPart}
+use Rattle.wasi_pipeline.specs.Completion.{Completes}
 use Rattle.wasi_pipeline.specs.Conservation.{ConservesAtEachStep}
 use Rattle.wasi_pipeline.specs.Grammar.{parsed, Bad, IsGood, steps_of}
 use Rattle.wasi_pipeline.specs.Run.{transcript, told_after_run}
@@ -27,6 +28,8 @@ pub record IsDone (script : List ℕ) (input : Told) (taken_before taken_after :
   pub stdin : told_after ≡ Some (told_after_run (steps_of (parsed script)) input)
   -- no byte is lost or doubled, at each moment of the run
   pub conserves : ConservesAtEachStep (steps_of (parsed script)) input
+  -- where nothing stopped or failed and the reader was told of the end, all of the input came through all of the stages
+  pub completes : Completes (steps_of (parsed script)) input
 
 -- which answer comes of which script
 abbrev pub ScriptRead : Result (Unit {0}) PipelineError → Told → Option Told → Type 0

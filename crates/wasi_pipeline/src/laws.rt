@@ -1,3 +1,4 @@
+ghost use Rattle.wasi_pipeline.specs.Completion.{ValidRunsComplete};
 ghost use Rattle.wasi_pipeline.specs.Conservation.{ValidRunsConserve};
 
 /// A law: at each moment of a run of a valid script, what was put into each link is what was taken
@@ -6,4 +7,11 @@ ghost use Rattle.wasi_pipeline.specs.Conservation.{ValidRunsConserve};
 /// that it took.
 pub fn valid_runs_conserve()
     ensures { ValidRunsConserve }
+{}
+
+/// A law: where a run of a valid script stops no stage, tells no fault, and a drain answers that
+/// the last link is closed, the bytes that the drains showed are what the kinds of the stages make,
+/// in order, of all the bytes of the input.
+pub fn valid_runs_complete()
+    ensures { ValidRunsComplete }
 {}

@@ -20,7 +20,7 @@ mod tests;
 
 pub use chain_run::{PipelineError, run_chain};
 pub use kind::StageKind;
-pub use laws::valid_runs_conserve;
+pub use laws::{valid_runs_complete, valid_runs_conserve};
 pub use line::Line;
 pub use link::Link;
 pub use parse::{ScriptError, parse_script};
