@@ -1,0 +1,10 @@
+pub mod CarryFacts
+pub mod EndFacts
+pub mod FeedingFacts
+pub mod LoopFacts
+pub mod MadeFacts
+pub mod MovingFacts
+pub mod ReplyFacts
+pub mod ScriptFacts
+pub mod Standing
+pub mod StepFacts

@@ -1,0 +1,11 @@
+pub mod Bounds
+pub mod Chain
+pub mod Completion
+pub mod Conservation
+pub mod Feeding
+pub mod Grammar
+pub mod Kinds
+pub mod Link
+pub mod Program
+pub mod Run
+pub mod Steps
