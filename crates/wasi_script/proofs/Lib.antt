@@ -1,5 +1,3 @@
-pub mod Cuts
 pub mod DeclarationFacts
-pub mod NumberFacts
 pub mod PlanFacts
 pub mod ScriptFacts

@@ -3,6 +3,7 @@ use Rattle.std.specs.Prelude.{◌≡◌, ℕ, ◌+◌, Bool, true, false, cond, 
 use Rattle.std.specs.List.{list_any, slice_split}
 use Rattle.std.specs.Option.{option_map}
 use Rattle.std.specs.Str.{bytes_eq}
+pub use Rattle.wasi_words.specs.Fields.{Form, meaning_by, lines_of}
 use Rattle.wasi_script.specs.Fields.{words_of, guest_of, number_of, capacity_of, room_of, budget_of, exit_code_of, is_at_end, with_first, with_last, two_fields}
 use Rattle.wasi_script.specs.Name.{name_of}
 use Rattle.wasi_script.specs.Bytes.{byte_string_of, declared_bytes_of}
@@ -36,16 +37,6 @@ use Rattle.wasi_script.specs.declared.lines.ExitStatus.{ExitStatus}
 use Rattle.wasi_script.specs.declared.lines.ExitStatus.TheVariants as exit
 use Rattle.wasi_script.specs.declared.forms.Reading.{Reading}
 use Rattle.wasi_script.specs.declared.forms.Reading.TheVariants.{Note, Step, Invalid}
-
--- A form is a first word, and what the fields after it stand for, if anything.
-abbrev pub Form : Type 0 → Type 0
-Form A = List ℕ × (List (List ℕ) → Option A)
-
--- what words stand for, by the form that their first word names
-abbrev pub meaning_by : {A : Type 0} → List (Form A) → List (List ℕ) → Option A
-meaning_by [] words = None
-meaning_by (form ∷ forms) [] = None
-meaning_by (form ∷ forms) (word ∷ fields) = cond (bytes_eq word form.0) (form.1 fields) (meaning_by forms (word ∷ fields))
 
 -- no fields
 abbrev pub without_fields : {A : Type 0} → A → List (List ℕ) → Option A
@@ -325,10 +316,6 @@ if_standing names Invalid = Invalid
 
 abbrev pub reading_after : Names → List ℕ → Reading
 reading_after names text = if_standing names (reading_of text)
-
--- The lines of a script: what stands between its bytes 0x0A. After the last of these, nothing is an empty line.
-abbrev pub lines_of : List ℕ → List (List ℕ)
-lines_of bytes = slice_split (λ byte. nat_eq byte 10) bytes
 
 -- a script: its steps, or the number of its first line that is not valid
 pub data Parsed : Type 0 where

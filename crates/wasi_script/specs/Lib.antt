@@ -4,7 +4,6 @@ pub mod Fields
 pub mod Grammar
 pub mod Kept
 pub mod Name
-pub mod Parts
 pub mod Plans
 pub mod Reads
 pub mod Refused

@@ -3,12 +3,12 @@ ghost use Rattle.wasi_script.specs.Bytes.{hex_of, byte_of, repeated_of, byte_str
 ghost use Rattle.wasi_script.specs.Reads.{Reads};
 
 use crate::numbers::parse_count;
-use crate::parts::{Parts, is, only};
 use crate::refusal::Refusal;
 use hex::{FromHex, FromHexError};
 use std::alloc::Global;
 use std::marker::Model;
 use wasi_base::OutOfMemory;
+use wasi_words::{Parts, is, only};
 
 /// Bytes of a script's field. Contracts see them as a list.
 #[derive(Drop)]

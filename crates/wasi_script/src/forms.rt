@@ -12,14 +12,12 @@ use crate::lines::{
     OwnCall, Setting, Standard, StreamTask, WorkerTurn,
 };
 use crate::name::Name;
-use crate::numbers::{
-    parse_budget, parse_capacity, parse_exit_code, parse_guest, parse_number, parse_room,
-};
-use crate::parts::{Parts, is, is_done, only};
+use crate::numbers::{parse_budget, parse_capacity, parse_exit_code, parse_guest, parse_room};
 use crate::plan::{ReadPlan, WritePlan};
 use crate::refusal::Refusal;
 use std::alloc::Global;
 use wasi_base::OutOfMemory;
+use wasi_words::{Parts, is, is_done, only, parse_number};
 
 /// What a line of text is.
 #[derive(Drop)]

@@ -9,7 +9,6 @@ mod name;
 mod name_set;
 mod numbers;
 mod parse;
-mod parts;
 mod plan;
 mod refusal;
 

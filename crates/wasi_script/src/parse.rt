@@ -5,11 +5,11 @@ ghost use Rattle.wasi_script.specs.Refused.{OnBadLine};
 use crate::declarations::{Declarations, Declared};
 use crate::forms::{Reading, read_line};
 use crate::lines::Line;
-use crate::parts::Parts;
 use std::alloc::Global;
 use std::marker::Model;
 use thiserror::Error;
 use wasi_base::OutOfMemory;
+use wasi_words::Parts;
 
 /// The steps of a valid script, in order.
 #[derive(Drop)]

@@ -2,12 +2,11 @@ ghost use Rattle.std.specs.Prelude.{◌≡◌, ℕ, List, Option, IfOk};
 ghost use Rattle.wasi_script.specs.Plans.{plan_of, plan_with, read_plan_of, write_plan_of, take_or_fail, take_or_fail_or_flush_fail};
 ghost use Rattle.wasi_script.specs.Reads.{Reads, ReadsItems};
 
-use crate::numbers::parse_number;
-use crate::parts::{Parts, is};
 use crate::refusal::Refusal;
 use std::alloc::Global;
 use std::marker::Model;
 use wasi_base::{IoKind, OutOfMemory, Plan, SinkPlan};
+use wasi_words::{Parts, is, parse_number};
 
 /// What an input's source does at each read: its plan, of at most 1024 items.
 #[derive(Drop)]

@@ -6,6 +6,7 @@ ghost use Rattle.std.specs.Str.{bytes_eq};
 ghost use Rattle.wasi_words.specs.Fields.{is_at_end, only_field};
 ghost use Rattle.wasi_words.specs.Parts.{parts_in};
 
+use memchr::memchr;
 use std::marker::Model;
 
 /// The parts of a text between the bytes of one kind, from its front.
@@ -60,18 +61,21 @@ fn cut(text: &[u8], separator: u8) -> (&[u8], Option<&[u8]>)
     }
 }
 
+#[tactic(auto, using(crate::proofs::Cuts::found_is_position))]
 fn place_of(text: &[u8], separator: u8) -> Option<usize>
     ensures { result ≡ position (λ byte. nat_eq byte separator) text.now }
 {
-    text.iter().position(|byte| *byte == separator)
+    memchr(separator, text)
 }
 
+#[inline]
 pub fn is(word: &[u8], name: &[u8]) -> bool
     ensures { result ≡ bytes_eq word.now name.now }
 {
     word == name
 }
 
+#[inline]
 pub fn is_done(mut parts: Parts) -> bool
     ensures { result ≡ is_at_end parts.entry }
 {
@@ -79,6 +83,7 @@ pub fn is_done(mut parts: Parts) -> bool
 }
 
 /// The one part that is left.
+#[inline]
 pub fn only<'a>(mut parts: Parts<'a>) -> Option<&'a [u8]>
     ensures { option_copied result ≡ only_field parts.entry }
 {
