@@ -1,13 +1,6 @@
--- The words of the command line, and the line that tells a refusal.
-use Rattle.std.specs.Prelude.{◌≡◌, ℕ, ◌<◌, ◌⊎◌, Bool, false, List, [], ◌∷◌, ◌++◌, length, take, map, Option, string_bytes, codes, String}
-use Rattle.std.specs.Fmt.{decimal}
+-- The words of the command line.
+use Rattle.std.specs.Prelude.{ℕ, Bool, false, List, [], ◌∷◌, codes}
 use Rattle.std.specs.Str.{bytes_eq}
-use Rattle.std.specs.declared.alloc.Global.{Global}
-use Rattle.wasi_base.specs.Causes.{Rose}
-use Rattle.wasi_base.specs.Sink.{with_more}
-
-abbrev pub words_of : List (String Global) → List (List ℕ)
-words_of words = map string_bytes words
 
 -- `run FILE`, where FILE is any word
 abbrev pub is_run_words : List (List ℕ) → Bool
@@ -16,26 +9,6 @@ is_run_words (first ∷ []) = false
 is_run_words (first ∷ file ∷ []) = bytes_eq first (codes "run")
 is_run_words (first ∷ file ∷ more ∷ rest) = false
 
--- the line that tells a status of 2, 3, 4, 6 or 7
+-- the line that tells a status of 2
 abbrev pub usage_line : List ℕ
 usage_line = codes "usage: wasi_run run FILE | wasi_run gen NUMBER LINES\n"
-
-abbrev pub read_fault_line : List ℕ
-read_fault_line = codes "read fault\n"
-
-abbrev pub too_long_line : List ℕ
-too_long_line = codes "script too long\n"
-
-abbrev pub write_fault_line : List ℕ
-write_fault_line = codes "write fault\n"
-
-abbrev pub out_of_memory_line : List ℕ
-out_of_memory_line = codes "out of memory\n"
-
--- .. and of 5, for the line n
-abbrev pub bad_script_line : ℕ → List ℕ
-bad_script_line n = codes "bad script: line " ++ (decimal n ++ 10 ∷ [])
-
--- a sink took the whole line, or a part of it and then failed
-abbrev pub Tells : List ℕ → Option (List ℕ) → Option (List ℕ) → ℕ → ℕ → Type 0
-Tells line before after faults_before faults_after = (after ≡ with_more before line) ⊎ ((n : ℕ) × (n < length line) × (after ≡ with_more before (take n line)) × Rose faults_before faults_after)

@@ -1,38 +1,13 @@
 -- What a session's answer says of the script that it read.
-use Rattle.std.specs.Prelude.{◌≡◌, ℕ, ◌≤◌, ◌<◌, List, ◌++◌, length, take, Option, Some, Result, Ok, Err}
+use Rattle.std.specs.Prelude.{◌≡◌, ℕ, ◌≤◌, ◌<◌, List, length, take, Option, Some, Result, Ok, Err}
 use Rattle.wasi_base.specs.Source.{Told}
 use Rattle.wasi_base.specs.Sink.{with_more}
 use Rattle.wasi_script.specs.Grammar.{parsed, Bad, IsGood, steps_of}
 use Rattle.wasi_script.specs.declared.lines.Line.{Line}
 use Rattle.wasi_host.specs.Transcript.{transcript, told_after_run}
-use Rattle.wasi_session.specs.declared.read.ReadError.{ReadError}
-use Rattle.wasi_session.specs.declared.read.ReadError.TheVariants.{Fault}
-use Rattle.wasi_session.specs.declared.read.ReadError.TheVariants as reading
+use Rattle.wasi_commands.specs.Reading.{IsReadWhole, IsReadPast, IsReadInPart}
 use Rattle.wasi_session.specs.declared.run.SessionError.{SessionError}
 use Rattle.wasi_session.specs.declared.run.SessionError.TheVariants.{ReadFault, TooLong, BadScript, WriteFault, OutOfMemory}
-
--- these bytes were taken of what a source had left at first
-pub record HasTaken (first : Told) (now : Option Told) (bytes : List ℕ) : Type 0 where
-  pub at : Told
-  pub now_is : now ≡ Some at
-  pub all : bytes ++ at.left ≡ first.left
-
--- a source that was read to its end, within the limit
-pub record IsReadWhole (first : Told) (now : Option Told) : Type 0 where
-  pub taken : HasTaken first now first.left
-  pub short : length first.left ≤ 16777216
-
--- a source of which one byte more than the limit was taken
-pub record IsReadPast (first : Told) (now : Option Told) : Type 0 where
-  pub bytes : List ℕ
-  pub taken : HasTaken first now bytes
-  pub past : length bytes ≡ 16777217
-
--- a source of which no more than the limit was taken
-pub record IsReadInPart (first : Told) (now : Option Told) : Type 0 where
-  pub bytes : List ℕ
-  pub taken : HasTaken first now bytes
-  pub within : length bytes ≤ 16777216
 
 -- which answer comes of which script
 abbrev pub ScriptRead : Result (Unit {0}) SessionError → Told → Option Told → Type 0
@@ -58,17 +33,6 @@ OnReadFault _ P = Unit {0}
 abbrev pub OnWriteFault : SessionError → Type 0 → Type 0
 OnWriteFault WriteFault P = P
 OnWriteFault _ P = Unit {0}
-
--- the same of the reading alone
-abbrev pub ErrorRead : ReadError → Told → Option Told → Type 0
-ErrorRead Fault script now = IsReadInPart script now
-ErrorRead reading.TooLong script now = IsReadPast script now
-ErrorRead reading.OutOfMemory script now = Unit {0}
-
-abbrev pub OnFault : ReadError → Type 0 → Type 0
-OnFault Fault P = P
-OnFault reading.TooLong P = Unit {0}
-OnFault reading.OutOfMemory P = Unit {0}
 
 -- the same of a script that was read
 abbrev pub BytesTell : Result (Unit {0}) SessionError → List ℕ → Type 0

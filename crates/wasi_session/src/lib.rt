@@ -8,7 +8,6 @@ mod laws;
 mod output;
 mod own;
 mod program;
-mod read;
 mod room;
 mod run;
 mod session;

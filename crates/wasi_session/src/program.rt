@@ -5,13 +5,15 @@ ghost use Rattle.wasi_base.specs.Source.{Told};
 ghost use Rattle.wasi_base.specs.Sink.{with_more};
 ghost use Rattle.wasi_script.specs.Grammar.{parsed, Bad, IsGood, steps_of};
 ghost use Rattle.wasi_host.specs.Transcript.{IsDone};
-ghost use Rattle.wasi_session.specs.Reading.{IsReadWhole, IsReadPast, IsReadInPart, IsCutOff, LeftByFirst};
-ghost use Rattle.wasi_session.specs.Program.{is_run_words, words_of, Tells, usage_line, read_fault_line, too_long_line, write_fault_line, out_of_memory_line, bad_script_line};
+ghost use Rattle.wasi_commands.specs.Reading.{IsReadWhole, IsReadPast, IsReadInPart};
+ghost use Rattle.wasi_commands.specs.Telling.{words_of, Tells, read_fault_line, too_long_line, write_fault_line, out_of_memory_line, bad_script_line};
+ghost use Rattle.wasi_session.specs.Reading.{IsCutOff, LeftByFirst};
+ghost use Rattle.wasi_session.specs.Program.{is_run_words, usage_line};
 
 use crate::run::{SessionError, run_session};
-use itoa::Buffer;
 use std::alloc::Global;
-use wasi_base::{Sink, Source, write_all};
+use wasi_base::{Sink, Source};
+use wasi_commands::{is_word, tell, tell_bad_script};
 
 /// All that the program does with its words, the script, the guests' input, its output and the
 /// sink for a line on a refusal. Answers the exit status: 0 at the good end; 2 for words of no
@@ -79,38 +81,8 @@ pub fn run_program<S: Source, I: Source, K: Sink, E: Sink>(
     }
 }
 
-// true where the sink took the whole line; a fault of it changes nothing else
-fn tell<E: Sink>(err: &mut E, line: &[u8]) -> bool
-    ensures tells { Tells line.now (E.taken err.old) (E.taken err.new) (E.faults err.old) (E.faults err.new) }
-    ensures whole { result ≡ true → E.taken err.new ≡ with_more (E.taken err.old) line.now }
-    ensures part { result ≡ false → (n : ℕ) × (n < length line.now) × (E.taken err.new ≡ with_more (E.taken err.old) (take n line.now)) × Rose (E.faults err.old) (E.faults err.new) }
-    ensures later { E.faults err.old ≤ E.faults err.new }
-{
-    write_all(err, line).is_ok()
-}
-
-fn tell_bad_script<E: Sink>(err: &mut E, number: u64)
-    ensures { Tells (bad_script_line number) (E.taken err.old) (E.taken err.new) (E.faults err.old) (E.faults err.new) }
-{
-    let mut buffer = Buffer::new();
-    let digits = buffer.format(number).as_bytes();
-    if !tell(err, b"bad script: line ") {
-        return;
-    }
-    if !tell(err, digits) {
-        return;
-    }
-    tell(err, b"\n");
-}
-
 fn is_run(words: &[String]) -> bool
     ensures { result ≡ is_run_words (words_of words.now) }
 {
     words.len() == 2 && is_word(&words[0], b"run")
-}
-
-fn is_word(text: &String, word: &[u8]) -> bool
-    ensures { result ≡ bytes_eq (string_bytes text.now) word.now }
-{
-    text.as_bytes() == word
 }

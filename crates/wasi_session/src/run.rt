@@ -5,10 +5,10 @@ ghost use Rattle.wasi_script.specs.Grammar.{AllStand, no_names, parsed, Bad, IsG
 ghost use Rattle.wasi_host.specs.Transcript.{transcript, told_after_run, IsDone};
 ghost use Rattle.wasi_session.specs.Reading.{ScriptRead, BytesTell, OnUnstarted, OnReadFault, OnWriteFault, OnNoMemory, IsCutOff, LeftByFirst};
 
-use crate::read::{ReadError, read_script};
 use crate::session::Session;
 use std::alloc::Global;
 use wasi_base::{OutOfMemory, Sink, Source, write_all};
+use wasi_commands::{ReadError, read_script};
 use wasi_script::{Line, ScriptError, parse_script};
 
 /// Why a session did not come to its good end.
