@@ -36,7 +36,7 @@ use Rattle.wasi_reply.specs.declared.reply.Reply.{Reply}
 use Rattle.wasi_reply.specs.declared.reply.Reply.TheVariants as reply
 use Rattle.wasi_reply.specs.Reply.{ends}
 use Rattle.wasi_host.specs.Run.{Standing, Reader, Polled, Pollable, Sharing, at_number, at_start, without_guest, with_standing, without_standing, held_count, after_row, read_row, poll_row, fault_to_read, ReadRule, SkipRule, counted, is_over, PollRule, after_ready_row, ReadyRule, wait_row, WaitedRule, BlockRule, Tells, MakeRule, is_full, EntryRule, DropRule, OpenRule, opened_standing, CallRule, live_after, left_by, EndedRule, size_captured, CaptureRule, delivery_answer, delivered_row, DeliverRule, WorkerRule, setting_row, is_shared, Rule, IsRun}
-use Rattle.wasi_host.specs.Sound.{HoldsCount, IsWaitIn, WaitsIn, SoundIn, IsSoundRun, RunsAreSound, IsNoDelivery, request_of, RunsKeepRequests, faults_in, entry_faults, call_faults, step_faults, faults_told, fault_worked, delivered_fault, faults_delivered, RunsTellOnce}
+use Rattle.wasi_host.specs.Sound.{HoldsCount, IsWaitIn, WaitsIn, SoundIn, IsSoundRun, RunsAreSound, IsNoDelivery, RunsKeepRequests, faults_in, entry_faults, call_faults, step_faults, faults_told, fault_worked, delivered_fault, faults_delivered, RunsTellOnce}
 
 -- ---- families of values by a number
 put_all : {A : Type 0} (P : A → Type 0) (b : Bool) (x y : A) → P x → P y → P (cond b x y)

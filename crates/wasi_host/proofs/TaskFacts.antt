@@ -1,11 +1,11 @@
 -- What a turn of a writer task over a sink in memory leaves.
-use Rattle.std.proofs.Common.{◌≡◌, ℕ, List, [], ◌∷◌, ◌++◌, length, take, drop, Some, Result, Ok, Err, refl, ap, sym, ◌∙◌}
+use Rattle.std.proofs.Common.{◌≡◌, ℕ, ◌++◌, length, take, drop, Some, Result, Ok, Err, refl, ap, ◌∙◌}
 use Rattle.wasi_base.specs.declared.io_kind.IoKind.{IoKind}
 use Rattle.wasi_base.specs.Memory.{SinkMemory}
 use Rattle.wasi_base.specs.Sink.{written, after_write, flushed, after_flush}
 use Rattle.wasi_streams.specs.declared.writer_turn.WriterTurn.{WriterTurn}
 use Rattle.wasi_streams.specs.declared.writer_turn.WriterTurn.TheVariants as turn
-use Rattle.wasi_streams.specs.Outputs.{Outlet, Took, taken_with}
+use Rattle.wasi_streams.specs.Outputs.{Took, taken_with}
 use Rattle.wasi_streams.specs.Writer.{Writer, Work, Nothing_left, Writing, Flushing, work_of, written_left, flushed_left, WritesOnce, FlushesSink}
 use Rattle.wasi_host.specs.Sources.{told_writer}
 use Rattle.wasi_host.specs.Tasks.{turned_by, writer_turned}

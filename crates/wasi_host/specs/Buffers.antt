@@ -1,25 +1,22 @@
 -- Outputs that buffer: what they accepted goes out in order, and a fault of their sink is told once.
-use Rattle.std.specs.Prelude.{◌≡◌, ℕ, ◌<◌, ◌≤◌, Bool, true, false, List, [], ◌∷◌, ◌++◌, length, take, drop, ◌⊎◌, Option, Some, None}
+use Rattle.std.specs.Prelude.{◌≡◌, ℕ, Bool, true, false, List, [], ◌∷◌, ◌++◌, Option, Some, None}
 use Rattle.std.specs.Map.{lookup}
 use Rattle.std.specs.Str.{bytes_eq}
 use Rattle.wasi_base.specs.Source.{Told as Told'}
-use Rattle.wasi_base.specs.declared.io_kind.IoKind.{IoKind}
 use Rattle.wasi_streams.specs.declared.writer_turn.Trouble.{Trouble}
 use Rattle.wasi_streams.specs.declared.writer_turn.Trouble.TheVariants.{Nothing, Untold, Told}
 use Rattle.wasi_streams.specs.Outputs.{Outlet}
-use Rattle.wasi_streams.specs.Writer.{Writer, Writing, work_of}
+use Rattle.wasi_streams.specs.Writer.{Writer}
 use Rattle.wasi_script.specs.declared.lines.EntryCall.{EntryCall}
 use Rattle.wasi_script.specs.declared.lines.EntryCall.TheVariants as on
 use Rattle.wasi_script.specs.declared.lines.Line.{Line}
 use Rattle.wasi_reply.specs.declared.reply.Told.TheVariants as told
-use Rattle.wasi_reply.specs.declared.reply.Worked.TheVariants as worked
 use Rattle.wasi_reply.specs.declared.reply.Reply.{Reply}
 use Rattle.wasi_reply.specs.declared.reply.Reply.TheVariants as reply
 use Rattle.wasi_host.specs.declared.entry.StreamEntry.{StreamEntry}
 use Rattle.wasi_host.specs.declared.entry.StreamEntry.TheVariants as at
 use Rattle.wasi_host.specs.declared.stream.OutStream.{OutStream}
 use Rattle.wasi_host.specs.declared.stream.OutStream.TheVariants as out_stream
-use Rattle.wasi_host.specs.Tasks.{writer_turned}
 use Rattle.wasi_host.specs.Host.{Host, new_host, host_end, step_reply, step_host, step_told}
 use Rattle.wasi_host.specs.Transcript.{outputs_of}
 use Rattle.wasi_host.specs.Promises.{step_call_on}

@@ -1,8 +1,7 @@
 ghost use Rattle.std.specs.Prelude.{◌≡◌};
-ghost use Rattle.wasi_host.specs.Deeds.{apart, is_on_shared};
+ghost use Rattle.wasi_host.specs.Deeds.{is_on_shared};
 
 use crate::Entry;
-use wasi_base::TrapText;
 use wasi_reply::Told;
 
 /// What is to be done for a call of a guest, and what it is told then.
@@ -24,20 +23,8 @@ pub enum Deed {
 }
 
 impl Deed {
-    /// What is done of it for a call that is not on the shared input: no entry on that is made or
-    /// changed.
-    #[inline]
-    pub fn apart(self) -> Deed
-        ensures { result ≡ apart self }
-    {
-        if self.is_on_shared() {
-            return Deed::Tell(Told::Trap(TrapText::ResourceWrongType));
-        }
-        self
-    }
-
-    // Whether it makes or changes an entry on the shared input.
-    fn is_on_shared(&self) -> bool
+    /// Whether it makes or changes an entry on the shared input, which only a call on that may.
+    pub fn is_on_shared(&self) -> bool
         ensures { result ≡ is_on_shared self.now }
     {
         match self {

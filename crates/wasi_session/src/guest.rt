@@ -1,7 +1,7 @@
 ghost use Rattle.std.specs.Prelude.{◌≡◌, Some, IfOk, OnOk, OnErr, true, false};
 ghost use Rattle.wasi_reply.specs.Reply.{ends};
 ghost use Rattle.wasi_host.specs.Calls.{opened, owned, exit_status};
-ghost use Rattle.wasi_host.specs.Deeds.{entry_at, apart};
+ghost use Rattle.wasi_host.specs.Deeds.{entry_at};
 ghost use Rattle.wasi_session.specs.Makes.{IsMake};
 ghost use Rattle.wasi_session.specs.Capacities.{CapacityFits};
 ghost use Rattle.wasi_session.specs.StreamCalls.{stream_doing};
@@ -156,7 +156,7 @@ impl Guest {
             Call::Drop { number } => Ok(self.own.drop(*number)),
             Call::Own(call) => {
                 let deed = self.owned(call);
-                self.own.act(deed.apart())
+                self.own.act_apart(deed)
             }
         }
     }
@@ -177,12 +177,14 @@ impl Guest {
         match self.own.entry(at.number) {
             None => Ok(Reply::Told(Told::Trap(TrapText::ResourceNotPresent))),
             Some(Entry::Shared(entry)) => {
+                let entry = *entry;
                 let deed = shared::asked(alloc, core, call, at, entry)?;
                 self.own.act(deed)
             }
             Some(Entry::Stream { stream, entry }) => {
+                let (stream, entry) = (*stream, *entry);
                 let deed = self.on_stream(alloc, call, at, stream, entry, streams)?;
-                self.own.act(deed)
+                self.own.act_apart(deed)
             }
         }
     }
@@ -197,24 +199,18 @@ impl Guest {
         entry: StreamEntry,
         streams: &mut Streams,
     ) -> Result<Deed, OutOfMemory>
-        ensures deed { IfOk result (λ deed. deed ≡ apart (stream_doing call.now at stream entry self.now.settings streams.old).deed) }
+        ensures deed { IfOk result (λ deed. deed ≡ (stream_doing call.now at stream entry self.now.settings streams.old).deed) }
         ensures left { OnOk result (streams.new ≡ (stream_doing call.now at stream entry self.now.settings streams.old).left) }
         ensures made { IfOk result (λ deed. IsMake deed → streams.new ≡ streams.old) }
         ensures err { OnErr result (streams.new ≡ streams.old) }
     {
-        let deed = match stream {
-            Standard::Input => streams.call(alloc, &self.settings.input, call, at, entry)?,
-            Standard::Output => streams.send(
-                alloc,
-                &self.settings.stdout,
-                call,
-                stream,
-                at,
-                entry,
-            )?,
-            Standard::Error => streams.send(alloc, &self.settings.stderr, call, stream, at, entry)?,
-        };
-        Ok(deed.apart())
+        match stream {
+            Standard::Input => streams.call(alloc, &self.settings.input, call, at, entry),
+            Standard::Output => {
+                streams.send(alloc, &self.settings.stdout, call, stream, at, entry)
+            }
+            Standard::Error => streams.send(alloc, &self.settings.stderr, call, stream, at, entry),
+        }
     }
 
     // a call on what the guest owns alone

@@ -1,6 +1,7 @@
 ghost use Rattle.std.specs.Prelude.{◌≡◌, ◌≤◌, IfOk, OnErr, None, Some, MatchOption, Option, ℕ, true, false};
+ghost use Rattle.std.specs.Option.{option_copied};
 ghost use Rattle.wasi_table.specs.Table.{new_table, is_live};
-ghost use Rattle.wasi_host.specs.Deeds.{Own, act, made, goes_under, may_change, with_kept, entry_at, dropped};
+ghost use Rattle.wasi_host.specs.Deeds.{Own, act, apart, made, goes_under, may_change, with_kept, entry_at, dropped};
 ghost use Rattle.wasi_session.specs.Makes.{IsMake};
 
 use std::alloc::Global;
@@ -71,22 +72,17 @@ impl Own {
     }
 
     /// What stands at a number.
-    pub fn entry(&self, number: u64) -> Option<Entry>
-        ensures { result ≡ entry_at self.now number }
+    pub fn entry(&self, number: u64) -> Option<&Entry>
+        ensures { option_copied result ≡ entry_at self.now number }
     {
         let narrow = self.narrow(number)?;
         let kind = self.table.kind_of(narrow).ok()?;
-        match self.table.get(narrow, kind) {
-            Ok(Entry::Shared(entry)) => Some(Entry::Shared(*entry)),
-            Ok(Entry::Stream { stream, entry }) => Some(Entry::Stream {
-                stream: *stream,
-                entry: *entry,
-            }),
-            Err(_) => None,
-        }
+        self.table.get(narrow, kind).ok()
     }
 
     /// Does what a rule answers, and tells what is to be told. Want of memory does nothing.
+    // Inlined, as the one below is, so that no deed is moved in memory at each call.
+    #[inline(always)]
     pub fn act(&mut self, deed: Deed) -> Result<Reply, OutOfMemory>
         ensures done { IfOk result (λ reply. record { reply = reply; own = self.new } ≡ act deed self.old) }
         ensures err { OnErr result (self.new ≡ self.old) }
@@ -104,6 +100,19 @@ impl Own {
                 told,
             } => Ok(self.change(number, entry, told)),
         }
+    }
+
+    /// The same for a call that is not on the shared input: a deed on that is refused.
+    #[inline(always)]
+    pub fn act_apart(&mut self, deed: Deed) -> Result<Reply, OutOfMemory>
+        ensures done { IfOk result (λ reply. record { reply = reply; own = self.new } ≡ act (apart deed) self.old) }
+        ensures err { OnErr result (self.new ≡ self.old) }
+        ensures made { OnErr result (IsMake deed) }
+    {
+        if deed.is_on_shared() {
+            return Ok(trap(TrapText::ResourceWrongType));
+        }
+        self.act(deed)
     }
 
     fn make_alone(&mut self, entry: Entry) -> Result<Reply, OutOfMemory>

@@ -32,7 +32,7 @@ use Rattle.wasi_host.specs.Deeds.{Own}
 use Rattle.wasi_host.specs.Calls.{Owner, result_told, is_done}
 use Rattle.wasi_host.specs.Host.{Host, new_output, step_reply, step_host, step_told, given_for, size_read, new_host, host_end}
 use Rattle.wasi_host.specs.Promises.{step_call_on}
-use Rattle.wasi_host.specs.Buffers.{buffer_in, buffer_at, accepted_of, accepted_by, accepted, Failed, HasAccepted, OnBuffer, asks_of, asks, TellsFault, KeepsFault, FaultBy, FaultStep, FaultsAreTold, BufferKeeps, BuffersKeep}
+use Rattle.wasi_host.specs.Buffers.{buffer_in, accepted_of, accepted_by, accepted, Failed, HasAccepted, OnBuffer, TellsFault, KeepsFault, FaultStep, FaultsAreTold, BuffersKeep}
 use Rattle.wasi_host.specs.laws.Tasks.{sort_of, sent_sort}
 use Rattle.wasi_host.specs.laws.Filled.{printed}
 use Rattle.wasi_host.specs.laws.Walk.{HoldsOfEach, left_by, told_by, step_holds}
