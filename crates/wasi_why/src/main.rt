@@ -1,10 +1,5 @@
 //! Tells where the first line of a script that is not valid is wrong, and why. The script is
 //! standard input.
-//!
-//! Its exit status is 0 for a valid script, and then it prints nothing; 2 where it is given words; 3
-//! where reading failed; 4 for a script of more than 16777216 bytes; 5 for a script with a line that
-//! is not valid, and then it prints that line's place and what is wrong; 6 where printing failed; 7
-//! where memory ran out.
 #![tactic(auto)]
 
 ghost use Rattle.std.specs.Prelude.{◌≤◌, length, IfOk};
@@ -87,6 +82,10 @@ fn tell(rt: &HostRuntime) -> Result<bool, Failure> {
     }
 }
 
+/// The exit status is 0 for a valid script, and then nothing is printed; 2 where words are given; 3
+/// where reading failed; 4 for a script of more than 16777216 bytes; 5 for a script with a line that
+/// is not valid, and then that line's place is printed and what is wrong; 6 where printing failed; 7
+/// where memory ran out.
 fn main(rt: HostRuntime) -> ExitCode {
     match tell(&rt) {
         Ok(true) => ExitCode::from(0),
