@@ -7,3 +7,4 @@ pub mod Source
 pub mod Sink
 pub mod Memory
 pub mod Standard
+pub mod laws

@@ -15,6 +15,12 @@ pub data Given : Type 0 where
   End : Given
   Fault : IoKind → Given
 
+-- the bytes that a read gives
+abbrev pub bytes_given : Given → List ℕ
+bytes_given (Bytes bytes) = bytes
+bytes_given End = []
+bytes_given (Fault kind) = []
+
 -- one read of room r, by the plan and the bytes left: what it gives ..
 abbrev pub given_by : List Plan → List ℕ → ℕ → Given
 given_by (Fail kind ∷ plan) left r = Fault kind

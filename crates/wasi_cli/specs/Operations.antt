@@ -7,7 +7,7 @@ use Rattle.wasi_streams.specs.Writer.{Writer, writer_is_ready, writer_check_writ
 use Rattle.wasi_cli.specs.declared.outcome.Outcome.{Outcome}
 use Rattle.wasi_cli.specs.declared.outcome.Outcome.TheVariants.{Waits, Gives, Closes, Fails}
 
--- a trap and want of memory are no outcome
+-- a trap and out of memory are no outcome
 abbrev pub IsTold : {A : Type 0} → Result A StreamError → Type 0
 IsTold (Ok a) = Unit {0}
 IsTold (Err Closed) = Unit {0}
@@ -15,7 +15,7 @@ IsTold (Err (LastOperationFailed kind)) = Unit {0}
 IsTold (Err (Trap text)) = ⊥
 IsTold (Err OutOfMemory) = ⊥
 
--- the last two rows are never met: no operation traps, and want of memory is answered apart
+-- the last two rows are never met: no operation traps, and out of memory is answered apart
 abbrev pub outcome_of : {A : Type 0} → Result A StreamError → Outcome A
 outcome_of (Ok a) = Gives a
 outcome_of (Err Closed) = Closes

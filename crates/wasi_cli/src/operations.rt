@@ -22,7 +22,7 @@ fn outcome_of<T: Drop>(answer: Result<T, StreamError>) -> Outcome<T>
     }
 }
 
-/// Reads once the stream is ready. Want of memory leaves the stream as it was.
+/// Reads once the stream is ready. Out of memory leaves the stream as it was.
 pub(crate) fn read_once_ready<S: Source + Drop>(
     alloc: Global,
     stream: &mut AsyncReadStream<S>,
@@ -66,7 +66,7 @@ fn write_part<K: Sink + Drop>(
     }
 }
 
-/// Writes as much of the piece as the stream permits, once it permits any. Want of memory leaves
+/// Writes as much of the piece as the stream permits, once it permits any. Out of memory leaves
 /// the stream as it was.
 pub(crate) fn write_once_permitted<K: Sink + Drop>(
     alloc: Global,

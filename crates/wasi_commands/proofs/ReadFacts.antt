@@ -3,22 +3,10 @@ use Rattle.std.proofs.Common.{◌≡◌, ℕ, zero, suc, ◌-◌, ◌<◌, ◌�
 use Rattle.wasi_base.specs.declared.io_kind.IoKind.{IoKind}
 use Rattle.wasi_base.specs.declared.source.Plan.{Plan}
 use Rattle.wasi_base.specs.declared.source.Plan.TheVariants.{Take, Fail}
-use Rattle.wasi_base.specs.Source.{Told, Given, Gives, gives, told_after, given_in, given_by, told_by}
+use Rattle.wasi_base.specs.Source.{Told, Given, Gives, gives, told_after, given_in, given_by, told_by, bytes_given}
 use Rattle.wasi_base.specs.Source as given
+use Rattle.wasi_base.specs.laws.Reads.{given_left}
 use Rattle.wasi_commands.specs.Reading.{HasTaken, IsReadWhole}
-
-abbrev bytes_given : Given → List ℕ
-bytes_given (given.Bytes bytes) = bytes
-bytes_given given.End = []
-bytes_given (given.Fault kind) = []
-
--- what a read of a source that tells gives, and what it leaves
-given_left : (plan : List Plan) (left : List ℕ) (r : ℕ) → left ≡ bytes_given (given_by plan left r) ++ (told_by plan left r).left
-given_left (Fail kind ∷ plan) left r = refl
-given_left (Take k ∷ plan) [] r = refl
-given_left (Take k ∷ plan) (b ∷ left) r = sym (take-append-drop (min r (max k 1)) (b ∷ left))
-given_left [] [] r = refl
-given_left [] (b ∷ left) r = sym (take-append-drop r (b ∷ left))
 
 given_some : (n : ℕ) (buf : List ℕ) → 0 < n → given_in (Ok n) buf ≡ given.Bytes (take n buf)
 given_some zero buf h = absurd (omega arith)

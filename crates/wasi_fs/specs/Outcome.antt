@@ -37,7 +37,7 @@ abbrev pub Answers : {A : Type 0} → Result A (TrappableError ErrorCode) → Re
 Answers result outcome = Says result (λ a. outcome ≡ Ok a) (λ code. outcome ≡ Err code) (IsOk outcome)
 
 -- A CHANGE: the definition says the nodes that it leaves, and it changes nothing else. A refusal changes nothing, nor does
--- want of memory, which comes only where there is no refusal.
+-- out of memory, which comes only where there is no refusal.
 abbrev pub Leaves : {A : Type 0} → TreeState → TreeState → Result A (TrappableError ErrorCode) → Result (List Node) ErrorCode → Type 0
 Leaves old new result outcome = Says result
     (λ a. (outcome ≡ Ok new.nodes) × (new ≡ with_nodes old new.nodes))

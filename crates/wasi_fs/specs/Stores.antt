@@ -67,7 +67,7 @@ taken (Refusal code) count = Err code
 taken Nothing count = Ok count
 taken (Bytes bytes) count = Ok count
 
--- want of memory comes only where there is no code
+-- out of memory comes only where there is no code
 abbrev pub Took : Result ℕ StoreError → Result ℕ ErrorCode → Type 0
 Took (Ok count) outcome = outcome ≡ Ok count
 Took (Err (store.Code code)) outcome = outcome ≡ Err code
@@ -85,7 +85,7 @@ after_write after_fault with_bytes before (Refusal code) = before
 after_write after_fault with_bytes before Nothing = before
 after_write after_fault with_bytes before (Bytes bytes) = with_bytes bytes
 
--- .. and want of memory leaves all as it was
+-- .. and out of memory leaves all as it was
 abbrev pub unless_no_memory : {S : Type 0} → Result ℕ StoreError → S → S → S
 unless_no_memory (Ok count) before after = after
 unless_no_memory (Err (store.Code code)) before after = after

@@ -91,7 +91,7 @@ impl MemStore {
         read_bytes(self.bytes.as_slice(), place, buf)
     }
 
-    /// Bytes from a place on. An end past what memory can hold is want of memory.
+    /// Bytes from a place on. An end past what memory can hold is out of memory.
     fn write_from(&mut self, place: u64, bytes: &[u8]) -> Result<(), OutOfMemory>
         ensures ok { OnOk result (self.new ≡ one_file_with self.old (bytes_after self.old.bytes (write_from None self.old.bytes place bytes.now))) }
         ensures err { OnErr result (self.new ≡ self.old) }

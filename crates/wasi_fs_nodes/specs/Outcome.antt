@@ -20,7 +20,7 @@ unless_some None on = on
 unless_some (Some code) on = Err code
 
 -- A CHANGE'S CONTRACT: the definition says what it leaves, or the code of its refusal, which changes nothing. Nor does
--- want of memory, which comes only where there is no code.
+-- out of memory, which comes only where there is no code.
 abbrev pub Leaves : {A T : Type 0} → T → T → Result A StoreError → Result T ErrorCode → Type 0
 Leaves old new (Ok a) outcome = outcome ≡ Ok new
 Leaves old new (Err (Code code)) outcome = (outcome ≡ Err code) × (new ≡ old)

@@ -34,7 +34,7 @@ pub enum ErrorCode {
     InvalidSeek,
 }
 
-/// A refusal that the guest is told, a trap, or want of memory.
+/// A refusal that the guest is told, a trap, or out of memory.
 pub type FilesystemError = TrappableError<ErrorCode>;
 
 pub type FilesystemResult<T> = Result<T, FilesystemError>;

@@ -71,7 +71,7 @@ fn a_code_prints_its_word(rt: HostRuntime) -> Result<(), Fail> {
     Ok(())
 }
 
-/// A refusal, a trap and want of memory print the same words under a width.
+/// A refusal, a trap and out of memory print the same words under a width.
 #[test]
 fn a_width_pads_no_refusal(rt: HostRuntime) -> Result<(), Fail> {
     let refusals = [

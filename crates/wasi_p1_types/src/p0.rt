@@ -9,7 +9,7 @@ pub use crate::errno::Errno;
 pub use flags::{Fdflags, Fstflags, Lookupflags, Oflags, Rights, Subclockflags};
 use wasi_base::TrappableError;
 
-/// An error that the guest is told, a trap, or want of memory.
+/// An error that the guest is told, a trap, or out of memory.
 pub type Error = TrappableError<Errno>;
 
 /// What a descriptor names and allows.

@@ -5,8 +5,9 @@ use Rattle.std.specs.List.{flat_map}
 use Rattle.hex.specs.Hex.{encode_with}
 use Rattle.wasi_base.specs.declared.source.Plan.{Plan}
 use Rattle.wasi_base.specs.declared.source.Plan.TheVariants.{Take, Fail}
-use Rattle.wasi_base.specs.Source.{Told, Given, given_by, told_by, gives, told_after}
+use Rattle.wasi_base.specs.Source.{Told, Given, given_by, told_by, gives, told_after, bytes_given}
 use Rattle.wasi_base.specs.Source as given
+use Rattle.wasi_base.specs.laws.Reads.{given_left}
 use Rattle.wasi_pipeline.specs.Chain.{Turned, after_moving, closed, counted, done, is_done, new_channel, room_of, turned, turned_at, with_output}
 use Rattle.wasi_reply.specs.declared.reply.Reply.TheVariants as reply
 use Rattle.wasi_pipeline.specs.Conservation.{Conserves, Carries, CarriesIn, ValidRunsConserve, bytes_shown}
@@ -27,18 +28,6 @@ use Rattle.wasi_pipeline.specs.declared.declarations.Declared.{Declared}
 use Rattle.wasi_pipeline.proofs.CarryFacts.{drain_kept, ends_apart, put_more, turn_at_kept}
 
 -- ---- reads
-abbrev pub bytes_given : Given → List ℕ
-bytes_given (given.Bytes bytes) = bytes
-bytes_given given.End = []
-bytes_given (given.Fault kind) = []
-
-given_left : (plan : List Plan) (left : List ℕ) (r : ℕ) → left ≡ bytes_given (given_by plan left r) ++ (told_by plan left r).left
-given_left (Fail kind ∷ plan) left r = refl
-given_left (Take k ∷ plan) [] r = refl
-given_left (Take k ∷ plan) (b ∷ left) r = sym (take-append-drop (min r (max k 1)) (b ∷ left))
-given_left [] [] r = refl
-given_left [] (b ∷ left) r = sym (take-append-drop r (b ∷ left))
-
 given_short : (plan : List Plan) (left : List ℕ) (r : ℕ) → length (bytes_given (given_by plan left r)) ≤ r
 given_short (Fail kind ∷ plan) left r = omega arith
 given_short (Take k ∷ plan) [] r = omega arith

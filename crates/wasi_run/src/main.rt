@@ -19,7 +19,7 @@ fn words_of(rt: &HostRuntime) -> io::Result<Vec<String>> {
 
 fn run(rt: &HostRuntime, alloc: Global) -> io::Result<u8> {
     let words = match words_of(rt) {
-        // a word that is not UTF-8 is of no form
+        // a word that is not UTF-8 is unrecognised
         Err(error) if error.kind() == io::ErrorKind::InvalidData => Vec::new(alloc),
         words => words?,
     };

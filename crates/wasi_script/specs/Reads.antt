@@ -4,7 +4,7 @@ use Rattle.std.specs.declared.alloc.Global.{Global}
 use Rattle.wasi_script.specs.declared.refusal.Refusal.{Refusal}
 use Rattle.wasi_script.specs.declared.refusal.Refusal.TheVariants.{Invalid, OutOfMemory}
 
--- read as what it stands for, refused where it stands for nothing, or refused for want of memory
+-- read as what it stands for, refused where it stands for nothing, or out of memory
 abbrev pub Reads : {A : Type 0} → Result A Refusal → Option A → Type 0
 Reads (Ok it) meaning = meaning ≡ Some it
 Reads (Err Invalid) meaning = meaning ≡ None

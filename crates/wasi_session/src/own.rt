@@ -80,7 +80,7 @@ impl Own {
         self.table.get(narrow, kind).ok()
     }
 
-    /// Does what a rule answers, and tells what is to be told. Want of memory does nothing.
+    /// Does what a rule answers, and tells what is to be told. Out of memory does nothing.
     // Inlined, as the one below is, so that no deed is moved in memory at each call.
     #[inline(always)]
     pub fn act(&mut self, deed: Deed) -> Result<Reply, OutOfMemory>

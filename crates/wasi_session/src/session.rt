@@ -138,7 +138,7 @@ impl Session {
     }
 
     /// Appends a line for each declared output, in order of declaration: its name and the bytes
-    /// that it took. Want of memory appends nothing.
+    /// that it took. Out of memory appends nothing.
     pub fn outputs(&self, text: &mut Vec<u8>) -> Result<(), OutOfMemory>
         ensures ok { OnOk result (text.new.items ≡ text.old.items ++ output_lines (outputs_of self.now.host.streams)) }
         ensures err { OnErr result (text.new.items ≡ text.old.items) }

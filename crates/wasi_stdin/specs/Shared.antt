@@ -2,7 +2,7 @@
 use Rattle.std.specs.Prelude.{◌≡◌, ℕ, zero, suc, ◌+◌, ◌<◌, ◌≤◌, min, max, Bool, true, false, not, cond, nat_lt, List, [], ◌∷◌, length, take, drop, Option, Some, None}
 use Rattle.wasi_base.specs.declared.io_kind.IoKind.{IoKind}
 use Rattle.wasi_base.specs.declared.io_kind.IoKind.TheVariants.{BrokenPipe}
-use Rattle.wasi_base.specs.Source.{Given}
+use Rattle.wasi_base.specs.Source.{Given, bytes_given}
 use Rattle.wasi_base.specs.Source as given
 use Rattle.wasi_stdin.specs.declared.mode.Mode.{Mode}
 use Rattle.wasi_stdin.specs.declared.mode.Mode.TheVariants.{Idle, Asked, Held, Failed, Closed}
@@ -240,13 +240,8 @@ mode_given (given.Bytes bytes) = Held
 mode_given given.End = Closed
 mode_given (given.Fault kind) = Failed kind
 
-abbrev pub held_given : Given → List ℕ
-held_given (given.Bytes bytes) = bytes
-held_given given.End = []
-held_given (given.Fault kind) = []
-
 abbrev pub delivered : Shared → Given → Shared
-delivered s g = record { mode = mode_given g; held = held_given g; captured = None; deliveries = s.deliveries + 1 }
+delivered s g = record { mode = mode_given g; held = bytes_given g; captured = None; deliveries = s.deliveries + 1 }
 
 -- what an outcome and its bytes say was given
 abbrev pub outcome_given : Outcome → List ℕ → Given

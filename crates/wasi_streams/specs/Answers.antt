@@ -6,7 +6,7 @@ use Rattle.wasi_base.specs.declared.polled.Polled.TheVariants.{Pending, Ready, F
 use Rattle.wasi_base.specs.declared.stream_error.StreamError.{StreamError}
 use Rattle.wasi_base.specs.declared.stream_error.StreamError.TheVariants.{Closed, LastOperationFailed, Trap, OutOfMemory}
 
--- a fact for want of memory ..
+-- a fact when out of memory ..
 abbrev pub OnNoMemory : {A : Type 0} → Result A StreamError → Type 0 → Type 0
 OnNoMemory (Ok a) P = Unit {0}
 OnNoMemory (Err Closed) P = Unit {0}

@@ -16,7 +16,7 @@ pub(crate) fn block_of(alloc: Global, count: usize) -> Result<Vec<u8>, OutOfMemo
 }
 
 /// The block as bytes to be shared. Where there is no memory to count its owners, it is never
-/// given back: bytes that were read are not lost for want of memory.
+/// given back: bytes that were read are not lost when out of memory.
 pub(crate) fn shared_bytes(block: Vec<u8>) -> Bytes
     ensures { result ≡ block.items }
 {

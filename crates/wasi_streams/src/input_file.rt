@@ -72,7 +72,7 @@ impl<S: Source + Drop> InputFile<S> {
     }
 
     /// One read of the source, of at most 65536 bytes; no bytes at its end and for room 0. Never
-    /// pending. Want of memory leaves the stream as it was.
+    /// pending. Out of memory leaves the stream as it was.
     pub fn poll_read(&mut self, alloc: Global, room: u64) -> Result<Polled<Bytes>, OutOfMemory>
         ensures told { (t : Told) → S.told self.old.source ≡ Some t → IfOk result (λ polled. (polled ≡ file_poll_read t room) × (S.told self.new.source ≡ Some (after_file_read t room))) }
         ensures nothing { room ≡ 0 → (result ≡ Ok (Ready [])) × (self.new ≡ self.old) }

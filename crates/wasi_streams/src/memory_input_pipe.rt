@@ -30,7 +30,7 @@ impl MemoryInputPipe {
         MemoryInputPipe { bytes }
     }
 
-    /// The first bytes, as many as there are and fit; never pending. Want of memory leaves the
+    /// The first bytes, as many as there are and fit; never pending. Out of memory leaves the
     /// pipe as it was.
     pub fn poll_read(&mut self, room: u64) -> Result<Polled<Bytes>, OutOfMemory>
         ensures read { IfOk result (λ polled. (polled ≡ pipe_poll_read self.old room) × (self.new ≡ after_pipe_read self.old room)) }

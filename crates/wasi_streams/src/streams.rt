@@ -8,7 +8,7 @@ use wasi_base::StreamError;
 /// Bytes that a guest reads.
 pub trait InputStream {
     /// The next bytes, at most `size`; none where none are there yet. Takes its memory before it
-    /// changes anything: want of memory leaves the stream as it was.
+    /// changes anything: out of memory leaves the stream as it was.
     fn read(&mut self, alloc: Global, size: u64) -> Result<Bytes, StreamError>
         ensures bound { IfOk result (λ bytes. length bytes ≤ size) }
         ensures memory { OnNoMemory result (self.new ≡ self.old) };

@@ -7,7 +7,7 @@ use Rattle.wasi_base.specs.declared.trappable.Trapped.TheVariants as trapped
 use Rattle.wasi_table.specs.declared.error.TableError.{TableError}
 use Rattle.wasi_table.specs.declared.error.TableError.TheVariants.{NotPresent, WrongType, HasChildren, Full, OutOfMemory}
 
--- every refusal is a trap, but for want of memory
+-- every refusal is a trap, but for out of memory
 abbrev pub trapped_by : TableError → Trapped
 trapped_by NotPresent = trapped.Trap ResourceNotPresent
 trapped_by WrongType = trapped.Trap ResourceWrongType

@@ -44,6 +44,7 @@ impl<'a> Iterator for Parts<'a> {
 
     ghost remaining = { item_count (λ parts. parts) };
 
+    #[inline(always)]
     fn next(&mut self) -> Option<&'a [u8]> {
         let (part, rest) = cut(self.rest?, self.separator);
         self.rest = rest;
@@ -52,6 +53,7 @@ impl<'a> Iterator for Parts<'a> {
 }
 
 // The part of a text before its first separator, and what stands after that.
+#[inline(always)]
 fn cut(text: &[u8], separator: u8) -> (&[u8], Option<&[u8]>)
     ensures { slice_split (λ byte. nat_eq byte separator) text.now ≡ result.0.now ∷ parts_in separator (option_copied result.1) }
 {
@@ -61,10 +63,15 @@ fn cut(text: &[u8], separator: u8) -> (&[u8], Option<&[u8]>)
     }
 }
 
+// Most words are a few bytes long: for them a call of `memchr` costs more than it saves.
 #[tactic(auto, using(crate::proofs::Cuts::found_is_position))]
+#[inline(always)]
 fn place_of(text: &[u8], separator: u8) -> Option<usize>
     ensures { result ≡ position (λ byte. nat_eq byte separator) text.now }
 {
+    if text.len() < 64 {
+        return text.iter().position(|byte| *byte == separator);
+    }
     memchr(separator, text)
 }
 

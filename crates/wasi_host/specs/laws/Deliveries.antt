@@ -5,25 +5,18 @@ use Rattle.std.specs.FinSet.{FinSet}
 use Rattle.std.proofs.lemmas.Grind.{common_steps}
 use Rattle.wasi_base.specs.declared.source.Plan.{Plan}
 use Rattle.wasi_base.specs.declared.source.Plan.TheVariants.{Take, Fail}
-use Rattle.wasi_base.specs.Source.{Told, Given, gives, told_after, given_by, told_by}
+use Rattle.wasi_base.specs.Source.{Told, Given, bytes_given, gives, told_after, given_by, told_by}
 use Rattle.wasi_base.specs.Source as given
+use Rattle.wasi_base.specs.laws.Reads.{given_left}
 use Rattle.wasi_stdin.specs.declared.mode.Mode.{Mode}
 use Rattle.wasi_stdin.specs.declared.mode.Mode.TheVariants.{Idle, Asked, Held, Failed, Closed}
-use Rattle.wasi_stdin.specs.Shared.{Shared, IsSound, HoldsIn, CapturedIn, capture_at, capture_of, captured_by, after_capture, outcome_of, mode_given, held_given, delivered}
+use Rattle.wasi_stdin.specs.Shared.{Shared, IsSound, HoldsIn, CapturedIn, capture_at, capture_of, captured_by, after_capture, outcome_of, mode_given, delivered}
 use Rattle.wasi_host.specs.Host.{Guest, captured_told, outcome_told, delivery_told, after_delivery, given_for, told_for}
 use Rattle.wasi_host.specs.Run.{size_captured, CaptureRule, delivery_answer, delivered_row, DeliverRule}
 use Rattle.wasi_host.specs.laws.Shown.{shown}
 use Rattle.wasi_host.specs.laws.GuestCalls.{OwnedBy, Next}
 
--- what a read of a source that tells gives, and what it leaves
-pub given_left : (plan : List Plan) (left : List ℕ) (r : ℕ) → left ≡ held_given (given_by plan left r) ++ (told_by plan left r).left
-given_left (Fail kind ∷ plan) left r = refl
-given_left (Take k ∷ plan) [] r = refl
-given_left (Take k ∷ plan) (b ∷ left) r = sym (take-append-drop (min r (max k 1)) (b ∷ left))
-given_left [] [] r = refl
-given_left [] (b ∷ left) r = sym (take-append-drop r (b ∷ left))
-
-given_sound : (plan : List Plan) (left : List ℕ) (r d : ℕ) → 0 < r → IsSound (record { mode = mode_given (given_by plan left r); held = held_given (given_by plan left r); captured = None; deliveries = d })
+given_sound : (plan : List Plan) (left : List ℕ) (r d : ℕ) → 0 < r → IsSound (record { mode = mode_given (given_by plan left r); held = bytes_given (given_by plan left r); captured = None; deliveries = d })
 given_sound (Fail kind ∷ plan) left r d pos = record { holds = refl; captures = refl }
 given_sound (Take k ∷ plan) [] r d pos = record { holds = refl; captures = refl }
 given_sound (Take k ∷ plan) (b ∷ left) r d pos = record { holds = grind (arith, common_steps); captures = refl }

@@ -3,11 +3,11 @@ use Rattle.std.specs.Prelude.{◌≡◌, ℕ, zero, suc, ◌+◌, ◌≤◌, min
 use Rattle.std.proofs.Common.{sym, ◌∙◌, ap, subst, arith}
 use Rattle.wasi_base.specs.declared.io_kind.IoKind.{IoKind}
 use Rattle.wasi_base.specs.declared.io_kind.IoKind.TheVariants as kind
-use Rattle.wasi_base.specs.Source.{Given, MayGive}
+use Rattle.wasi_base.specs.Source.{Given, MayGive, bytes_given}
 use Rattle.wasi_base.specs.Source as given
 use Rattle.wasi_stdin.specs.declared.mode.Mode.{Mode}
 use Rattle.wasi_stdin.specs.declared.mode.Mode.TheVariants.{Idle, Asked, Held, Failed, Closed}
-use Rattle.wasi_stdin.specs.Shared.{Shared, IsSound, HoldsIn, CapturedIn, mode_holding, after_in, after_meeting, meeting_of, met_in, wait_of, reading, told_fault, polling, after_read, is_waiting, asked_by_ready, ready_in, is_ready, after_ready, capture_at, captured_by, delivered, mode_given, held_given}
+use Rattle.wasi_stdin.specs.Shared.{Shared, IsSound, HoldsIn, CapturedIn, mode_holding, after_in, after_meeting, meeting_of, met_in, wait_of, reading, told_fault, polling, after_read, is_waiting, asked_by_ready, ready_in, is_ready, after_ready, capture_at, captured_by, delivered, mode_given}
 use Rattle.wasi_stdin.specs.Shared as told
 use Rattle.wasi_stdin.specs.Rules.{Rule, Read, Skip, PollRead, Ready, Block, Capture, Deliver, after_rule, MayFollow, IsAsked, IsWait, StaysSound, EveryRuleKeeps, after_rules, IsNoDelivery, HaveNoDelivery, RequestsOnlyGrow, faults_read, faults_polled, faults_told, faults_given, faults_delivered, all_faults_told, all_faults_delivered, new_shared, FaultsToldOnce}
 
@@ -125,12 +125,12 @@ deliver_waits : (g : Given) (s : Shared) (other : Option ℕ) → IsWait s other
 deliver_waits g s None h = tt
 deliver_waits g s (Some since) h = (omega (arith, h.0), λ e. absurd (omega (arith, h.0, e)))
 
-given_sound : (g : Given) (size d : ℕ) → MayGive size g → IsSound (record { mode = mode_given g; held = held_given g; captured = None; deliveries = d })
+given_sound : (g : Given) (size d : ℕ) → MayGive size g → IsSound (record { mode = mode_given g; held = bytes_given g; captured = None; deliveries = d })
 given_sound (given.Bytes bytes) size d may = record { holds = omega (arith, may.0); captures = refl }
 given_sound given.End size d may = record { holds = refl; captures = refl }
 given_sound (given.Fault kind) size d may = record { holds = refl; captures = refl }
 
-deliver_sound : (g : Given) (s : Shared) (captured : Option ℕ) (d : ℕ) → MayFollow (Deliver g) (record { mode = s.mode; held = s.held; captured = captured; deliveries = s.deliveries }) → IsSound (record { mode = mode_given g; held = held_given g; captured = None; deliveries = d })
+deliver_sound : (g : Given) (s : Shared) (captured : Option ℕ) (d : ℕ) → MayFollow (Deliver g) (record { mode = s.mode; held = s.held; captured = captured; deliveries = s.deliveries }) → IsSound (record { mode = mode_given g; held = bytes_given g; captured = None; deliveries = d })
 deliver_sound g s None d may = absurd may
 deliver_sound g s (Some size) d may = given_sound g size d may
 
