@@ -1,9 +1,10 @@
 ghost use Rattle.std.specs.Prelude.{◌≡◌, ◌-◌, ◌^◌, ◌<◌, ◌≤◌, [], min, length, take, drop, IfOk, IsSomeAnd, None};
-ghost use Rattle.wasi_stdin.specs.Shared.{Shared, IsSound, counted, meeting_of, after_meeting, reading_in, reading_of, bytes_read, after_read, handed_by, skipped, skipped_in, capture_of, after_capture, delivered, outcome_given, FitsOutcome, mode_holding, is_waiting, polled_in, poll_of, bytes_polled, after_poll, wait_after_poll, handed_by_poll, is_ready, after_ready, block_of, after_block, wait_after_block};
+ghost use Rattle.wasi_stdin.specs.Shared.{Shared, IsSound, counted, meeting_of, after_meeting, reading_in, reading_of, bytes_read, after_read, handed_by, skipped, skipped_in, capture_of, after_capture, delivered, outcome_given, FitsOutcome, mode_holding, is_waiting, handed_when, polled_in, poll_of, bytes_polled, after_poll, wait_after_poll, handed_by_poll, is_ready, after_ready, block_of, after_block, wait_after_block};
 
 use crate::answer::{Answer, Meeting, Outcome, PolledRead};
 use crate::mode::Mode;
 use crate::wait::Wait;
+use circular_buffer::HeapCircularBuffer;
 use std::alloc::Global;
 use std::marker::Model;
 use wasi_base::OutOfMemory;
@@ -16,24 +17,22 @@ pub const MOST_BYTES: usize = 65536;
 #[derive(Drop)]
 pub struct StdinCore {
     mode: Mode,
-    chunk: Vec<u8>,
-    from: usize,
+    ring: HeapCircularBuffer<u8>,
     captured: Option<usize>,
     deliveries: u64,
 }
 
 impl Model for StdinCore {
-    ghost use Rattle.std.specs.Prelude.{◌≤◌, drop, length, vec_capacity};
+    ghost use Rattle.std.specs.Prelude.{◌≡◌};
     ghost use Rattle.wasi_stdin.specs.Shared.{Shared, IsSound};
 
     ghost Value = { Shared };
 
-    ghost view = { λ s. record { mode = s.mode; held = drop s.from s.chunk.items; captured = s.captured; deliveries = s.deliveries } };
+    ghost view = { λ s. record { mode = s.mode; held = s.ring.items; captured = s.captured; deliveries = s.deliveries } };
 
     ghost invariant = { λ s. record {
-      sound : IsSound (record { mode = s.mode; held = drop s.from s.chunk.items; captured = s.captured; deliveries = s.deliveries });
-      within : s.from ≤ length s.chunk.items;
-      room : 65536 ≤ vec_capacity s.chunk;
+      sound : IsSound (record { mode = s.mode; held = s.ring.items; captured = s.captured; deliveries = s.deliveries });
+      places : s.ring.capacity ≡ 65536;
     } };
 }
 
@@ -42,11 +41,10 @@ impl StdinCore {
     pub fn new(alloc: Global) -> Result<StdinCore, OutOfMemory>
         ensures { IfOk result (λ s. s ≡ record { mode = Mode.Idle; held = []; captured = None; deliveries = 0 }) }
     {
-        let chunk = Vec::with_capacity(alloc, MOST_BYTES)?;
+        let ring = HeapCircularBuffer::with_capacity(alloc, MOST_BYTES)?;
         Ok(StdinCore {
             mode: Mode::Idle,
-            chunk,
-            from: 0,
+            ring,
             captured: None,
             deliveries: 0,
         })
@@ -56,7 +54,7 @@ impl StdinCore {
     pub fn would_give(&self, size: u64) -> usize
         ensures { result ≡ min size (length self.now.held) }
     {
-        let held = self.chunk.len() - self.from;
+        let held = self.ring.len();
         if size < held as u64 {
             size as usize
         } else {
@@ -80,28 +78,43 @@ impl StdinCore {
         self.deliveries
     }
 
-    // copies the first held bytes, as many as a read of this size hands out
-    fn copy_held(&self, size: u64, dst: &mut [u8])
-        requires { min size (length self.now.held) ≤ length dst.old }
-        ensures front { take (min size (length self.now.held)) dst.new ≡ take (min size (length self.now.held)) self.now.held }
-        ensures rest { drop (min size (length self.now.held)) dst.new ≡ drop (min size (length self.now.held)) dst.old }
-        ensures sound { IsSound self.now }
+    /// The ring of 65536 places that the held bytes stand in, from front to back.
+    pub fn ring(&self) -> &HeapCircularBuffer<u8>
+        ensures held { result.now.items ≡ self.now.held }
+        ensures places { result.now.capacity ≡ 65536 }
     {
-        let count = self.would_give(size);
-        let front = &mut dst[..count];
-        front.copy_from_slice(&self.chunk[self.from..self.from + count]);
+        &self.ring
     }
 
-    // the first held bytes are handed out
-    fn advance(&mut self, count: usize)
+    // moves the first held bytes to the front of `dst`, as many as a read of this size hands out
+    fn hand_out(&mut self, size: u64, dst: &mut [u8]) -> usize
         requires held { self.old.mode ≡ Mode.Held }
-        requires within { count ≤ length self.old.held }
-        ensures { self.new ≡ record self.old { mode = mode_holding (drop count self.old.held); held = drop count self.old.held } }
+        requires room { min size (length self.old.held) ≤ length dst.old }
+        ensures count { result ≡ min size (length self.old.held) }
+        ensures front { take result dst.new ≡ take result self.old.held }
+        ensures rest { drop result dst.new ≡ drop result dst.old }
+        ensures after { self.new ≡ after_meeting self.old size }
     {
-        self.from += count;
-        if self.from == self.chunk.len() {
+        let count = self.would_give(size);
+        self.ring.read_into(&mut dst[..count]);
+        if self.ring.is_empty() {
             self.mode = Mode::Idle;
         }
+        count
+    }
+
+    // drops the first held bytes, as many as a read of this size hands out
+    fn drop_front(&mut self, size: u64) -> usize
+        requires held { self.old.mode ≡ Mode.Held }
+        ensures count { result ≡ min size (length self.old.held) }
+        ensures after { self.new ≡ after_meeting self.old size }
+    {
+        let count = self.would_give(size);
+        self.ring.truncate_front(self.ring.len() - count);
+        if self.ring.is_empty() {
+            self.mode = Mode::Idle;
+        }
+        count
     }
 
     // asks for so many bytes, or has what is there
@@ -118,16 +131,26 @@ impl StdinCore {
                 self.mode = Mode::Asked(asked.max(size));
                 Meeting::NothingYet
             }
-            Mode::Held => {
-                let count = self.would_give(size);
-                self.advance(count);
-                Meeting::Handed(count)
-            }
+            Mode::Held => Meeting::Handed(self.drop_front(size)),
             Mode::Failed(kind) => {
                 self.mode = Mode::Closed;
                 Meeting::Fault(kind)
             }
             Mode::Closed => Meeting::End,
+        }
+    }
+
+    // asks for so many bytes, or moves what is there to the front of `dst`
+    fn meet_into(&mut self, size: u64, dst: &mut [u8]) -> Meeting
+        requires { min size (length self.old.held) ≤ length dst.old }
+        ensures meeting { result ≡ counted (meeting_of self.old size) }
+        ensures front { take (handed_when result) dst.new ≡ take (handed_when result) self.old.held }
+        ensures rest { drop (handed_when result) dst.new ≡ drop (handed_when result) dst.old }
+        ensures after { self.new ≡ after_meeting self.old size }
+    {
+        match self.mode {
+            Mode::Held => Meeting::Handed(self.hand_out(size, dst)),
+            _ => self.meet(size),
         }
     }
 
@@ -143,8 +166,7 @@ impl StdinCore {
         if size == 0 {
             return Answer::Bytes(0);
         }
-        self.copy_held(size, dst);
-        self.meet(size).answer()
+        self.meet_into(size, dst).answer()
     }
 
     /// A read of this size whose bytes are dropped.
@@ -171,9 +193,8 @@ impl StdinCore {
         if self.is_waiting(wait) {
             return PolledRead::Pending;
         }
-        self.copy_held(room, dst);
         let deliveries = self.deliveries();
-        match self.meet(room) {
+        match self.meet_into(room, dst) {
             Meeting::NothingYet => {
                 wait.set(Some(deliveries));
                 PolledRead::Pending
@@ -268,17 +289,13 @@ impl StdinCore {
         requires fits { IsSomeAnd self.old.captured (λ size. FitsOutcome outcome bytes.now size) }
         ensures { self.new ≡ delivered self.old (outcome_given outcome bytes.now) }
     {
-        self.chunk.clear();
-        self.from = 0;
+        self.ring.fill_from_slice(bytes);
         self.captured = None;
         self.deliveries += 1;
-        match outcome {
-            Outcome::Gave(_) => match self.chunk.extend_from_slice(bytes) {
-                Ok(()) => self.mode = Mode::Held,
-                Err(_) => unreachable!(),
-            },
-            Outcome::End => self.mode = Mode::Closed,
-            Outcome::Fault(kind) => self.mode = Mode::Failed(kind),
-        }
+        self.mode = match outcome {
+            Outcome::Gave(_) => Mode::Held,
+            Outcome::End => Mode::Closed,
+            Outcome::Fault(kind) => Mode::Failed(kind),
+        };
     }
 }
