@@ -1,3 +1,4 @@
 pub mod DeclarationFacts
+pub mod GeneratedFacts
 pub mod PlanFacts
 pub mod ScriptFacts

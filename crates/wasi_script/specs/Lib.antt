@@ -2,6 +2,7 @@ pub mod Bytes
 pub mod Declarations
 pub mod Fields
 pub mod Grammar
+pub mod Generated
 pub mod Kept
 pub mod Name
 pub mod Plans

@@ -4,6 +4,7 @@
 mod bytes;
 mod declarations;
 mod forms;
+mod generated;
 mod lines;
 mod name;
 mod name_set;
@@ -15,6 +16,7 @@ mod refusal;
 pub use bytes::ByteString;
 pub use declarations::Declared;
 pub use forms::Reading;
+pub use generated::{MOST_GENERATED_LINES, gen_script};
 pub use lines::{
     Access, Call, EntryCall, ExitStatus, Input, InputDeclaration, Line, Output, OutputDeclaration,
     OwnCall, Setting, Standard, StreamTask, WorkerTurn,

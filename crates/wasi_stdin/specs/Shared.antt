@@ -171,12 +171,6 @@ counted (Handed bytes) = meeting.Handed (length bytes)
 counted (Told kind) = meeting.Fault kind
 counted AtEnd = meeting.End
 
-abbrev pub handed_when : Meeting → ℕ
-handed_when meeting.NothingYet = 0
-handed_when (meeting.Handed n) = n
-handed_when (meeting.Fault kind) = 0
-handed_when meeting.End = 0
-
 abbrev pub answer_to_fault : IoKind → Answer
 answer_to_fault BrokenPipe = code.Closed
 answer_to_fault kind = code.Failed kind

@@ -1,5 +1,5 @@
 ghost use Rattle.std.specs.Prelude.{◌≡◌, ◌-◌, ◌^◌, ◌<◌, ◌≤◌, [], min, length, take, drop, IfOk, IsSomeAnd, None};
-ghost use Rattle.wasi_stdin.specs.Shared.{Shared, IsSound, counted, meeting_of, after_meeting, reading_in, reading_of, bytes_read, after_read, handed_by, skipped, skipped_in, capture_of, after_capture, delivered, outcome_given, FitsOutcome, mode_holding, is_waiting, handed_when, polled_in, poll_of, bytes_polled, after_poll, wait_after_poll, handed_by_poll, is_ready, after_ready, block_of, after_block, wait_after_block};
+ghost use Rattle.wasi_stdin.specs.Shared.{Shared, IsSound, counted, answer_of, meeting_of, after_meeting, reading_in, reading_of, bytes_read, after_read, handed_by, skipped, skipped_in, capture_of, after_capture, delivered, outcome_given, FitsOutcome, mode_holding, is_waiting, polled_in, poll_of, bytes_polled, after_poll, wait_after_poll, handed_by_poll, is_ready, after_ready, block_of, after_block, wait_after_block};
 
 use crate::answer::{Answer, Meeting, Outcome, PolledRead};
 use crate::mode::Mode;
@@ -144,8 +144,8 @@ impl StdinCore {
     fn meet_into(&mut self, size: u64, dst: &mut [u8]) -> Meeting
         requires { min size (length self.old.held) ≤ length dst.old }
         ensures meeting { result ≡ counted (meeting_of self.old size) }
-        ensures front { take (handed_when result) dst.new ≡ take (handed_when result) self.old.held }
-        ensures rest { drop (handed_when result) dst.new ≡ drop (handed_when result) dst.old }
+        ensures front { take (handed_by (answer_of result)) dst.new ≡ take (handed_by (answer_of result)) self.old.held }
+        ensures rest { drop (handed_by (answer_of result)) dst.new ≡ drop (handed_by (answer_of result)) dst.old }
         ensures after { self.new ≡ after_meeting self.old size }
     {
         match self.mode {
