@@ -1,4 +1,5 @@
 pub mod DeclarationFacts
 pub mod GeneratedFacts
+pub mod GeneratedValid
 pub mod PlanFacts
 pub mod ScriptFacts

@@ -1,6 +1,7 @@
-ghost use Rattle.std.specs.Prelude.{◌≡◌, ◌≤◌, ◌<◌, ◌*◌, [], ◌∷◌, ◌++◌, IfOk, OnOk};
+ghost use Rattle.std.specs.Prelude.{◌≡◌, ◌≤◌, ◌<◌, ◌*◌, [], ◌∷◌, ◌++◌, length, IfOk, OnOk};
 ghost use Rattle.std.specs.Fmt.{decimal};
-ghost use Rattle.wasi_script.specs.Generated.{number_after, numbers_of, text_of_kind, texts_of, generated_script, generated_input};
+ghost use Rattle.wasi_script.specs.Grammar.{parsed, Steps};
+ghost use Rattle.wasi_script.specs.Generated.{number_after, numbers_of, text_of_kind, texts_of, generated_script, generated_steps, generated_input};
 
 use itoa::Buffer;
 use std::alloc::Global;
@@ -15,10 +16,13 @@ const OPENING: &[u8] =
 /// A script of so many lines after its opening, and an input of eight bytes for each of them.
 /// What they are follows from the number alone: each line is one of six kinds by the next number
 /// of a linear congruential sequence, and the input's bytes count up.
+#[tactic(auto, using(crate::proofs::GeneratedValid::is_valid, crate::proofs::GeneratedValid::is_short))]
 pub fn gen_script(alloc: Global, number: u64, lines: u64) -> Result<(Vec<u8>, Vec<u8>), OutOfMemory>
     requires { lines ≤ 100000 }
     ensures script { IfOk result (λ made. made.0.items ≡ generated_script number lines) }
     ensures input { IfOk result (λ made. made.1.items ≡ generated_input number lines) }
+    ensures steps { parsed (generated_script number lines) ≡ Steps (generated_steps number lines) }
+    ensures short { length (generated_script number lines) ≤ 16777216 }
 {
     let script = generate_text(alloc, number, lines)?;
     let input = generate_input(alloc, number, lines)?;
