@@ -1,11 +1,13 @@
 -- A turn record stays one through each change.
-use Rattle.std.proofs.Common.{◌≡◌, Bool, true, false, cond, ◌||◌, List, [], ◌∷◌, ◌++◌, Option, Some, None, MatchOption, refl, sym, ap, subst, ◌∙◌, rules}
+use Rattle.std.proofs.Common.{◌≡◌, ℕ, ◌<◌, arith, length, drop, take, get_or, set, Bool, true, false, cond, ◌||◌, List, [], ◌∷◌, ◌++◌, Option, Some, None, MatchOption, refl, sym, ap, subst, ◌∙◌, rules}
 use Rattle.std.specs.List.{filter}
+use Rattle.std.specs.Prelude.{option_to_list, ◌==◌, not}
+use Rattle.std.proofs.lemmas.Bool.{eq-eqb, ne_eqb}
 use Rattle.std.specs.Cmp.{IsEquivalence}
 use Rattle.std.specs.Option.{option_eq}
 use Rattle.std.proofs.lemmas.List.Folds.{list_any-append}
 use Rattle.wasi_cli.specs.declared.owner.Owner.{Owner}
-use Rattle.wasi_cli.specs.Turns.{IsTurn, NoRepeats, same, is_waiting, without, gets_turn, joined, passed, after_free_by}
+use Rattle.wasi_cli.specs.Turns.{IsTurn, NoRepeats, same, is_waiting, without, without_guest, gets_turn, joined, passed, after_free_by, after_end_by}
 
 pub laws : IsEquivalence same
 laws = record {
@@ -84,3 +86,37 @@ leaves (Some holder) waiting keeps turn = record { once = still_once keeps waiti
 pub left_by : (holder : Option Owner) (waiting : List Owner) (who : Owner) → option_eq same holder (Some who) ≡ false → IsTurn (record { holder = holder; waiting = waiting }) → record { holder = holder; waiting = without who waiting } ≡ after_free_by holder waiting who
 left_by None waiting who other turn = ap (λ w. record { holder = None; waiting = w }) (ap (without who) turn.held ∙ sym turn.held)
 left_by (Some holder) waiting who other turn = sym (ap (λ b. cond b (passed waiting) (record { holder = Some holder; waiting = without who waiting })) other)
+
+-- what is taken from the front
+no_rest : (xs : List Owner) → xs ≡ drop 1 xs → xs ≡ []
+no_rest [] e = refl
+no_rest (x ∷ xs) e = let lengths : length (x ∷ xs) ≡ length xs = ap length e in absurd (omega (arith, lengths))
+
+pub popped : (next : Option Owner) (waiting rest : List Owner) → waiting ≡ option_to_list next ++ rest → rest ≡ drop 1 waiting → MatchOption next ((waiting ≡ []) × (rest ≡ [])) (λ first. waiting ≡ first ∷ rest)
+popped None waiting rest all dropped = let none = no_rest waiting (all ∙ dropped) in (none, sym all ∙ none)
+popped (Some first) waiting rest all dropped = all
+
+pub passed_is : (next : Option Owner) (waiting rest : List Owner) → MatchOption next ((waiting ≡ []) × (rest ≡ [])) (λ first. waiting ≡ first ∷ rest) → record { holder = next; waiting = rest } ≡ passed waiting
+passed_is None waiting rest by = ap (λ rest. record { holder = None; waiting = rest }) by.1 ∙ sym (ap passed by.0)
+passed_is (Some first) waiting rest by = sym (ap passed by)
+
+-- a guest ends
+pub ends_held : (holder : Owner) (waiting : List Owner) (guest : ℕ) → holder.guest ≡ guest → passed (without_guest guest waiting) ≡ after_end_by (Some holder) waiting guest
+ends_held holder waiting guest is = sym (ap (λ b. cond b (passed (without_guest guest waiting)) (record { holder = Some holder; waiting = without_guest guest waiting })) (eq-eqb holder.guest guest is))
+
+pub ends_apart : (holder : Owner) (waiting : List Owner) (guest : ℕ) → (holder.guest ≡ guest → ⊥) → record { holder = Some holder; waiting = without_guest guest waiting } ≡ after_end_by (Some holder) waiting guest
+ends_apart holder waiting guest other = sym (ap (λ b. cond b (passed (without_guest guest waiting)) (record { holder = Some holder; waiting = without_guest guest waiting })) (ne_eqb holder.guest guest other))
+
+-- the holder gives the turn on and waits again
+pub gives_way : (who next : Owner) (waiting rest : List Owner) → waiting ≡ next ∷ rest → IsTurn (record { holder = Some who; waiting = waiting }) → IsTurn (record { holder = Some next; waiting = rest ++ who ∷ [] })
+gives_way who next waiting rest is turn =
+    let apart : is_waiting who (next ∷ rest) ≡ false = subst (λ w. is_waiting who w ≡ false) is turn.apart in
+    let both = neither (same next who) (is_waiting who rest) apart in
+    queued next who rest both.0 both.1 (passes (Some who) (Some next) waiting rest is turn)
+
+pub rotated : (who next : Owner) (waiting now : List Owner) → 0 < length waiting → next ≡ get_or waiting 0 next → now ≡ drop 1 (set waiting 0 who) ++ take 1 (set waiting 0 who) → IsTurn (record { holder = Some who; waiting = waiting }) → IsTurn (record { holder = Some next; waiting = now })
+rotated who next [] now some is turns turn = absurd (omega (arith, some))
+rotated who next (x ∷ rest) now some is turns turn = subst (λ (next : Owner). IsTurn (record { holder = Some next; waiting = now })) (sym is) (subst (λ w. IsTurn (record { holder = Some x; waiting = w })) (sym turns) (gives_way who x (x ∷ rest) rest refl turn))
+
+pub leaves_guest : (holder : Option Owner) (waiting rest : List Owner) (guest : ℕ) → rest ≡ without_guest guest waiting → IsTurn (record { holder = holder; waiting = waiting }) → IsTurn (record { holder = holder; waiting = rest })
+leaves_guest holder waiting rest guest is turn = subst (λ w. IsTurn (record { holder = holder; waiting = w })) (sym is) (leaves holder waiting (λ other. not (other.guest == guest)) turn)

@@ -53,19 +53,3 @@ flush_from_first first who = then_second first.answer first who
 
 abbrev pub flush_poll : {K : Type 0} → StdoutHandle → Owner → Turn → Writer K → Poll StdoutHandle (Unit {0}) (Writer K)
 flush_poll h who turn w = if h.flushing then second_poll h.handle who turn w else flush_from_first (first_poll h.handle who turn w) who
-
--- where there is no memory to wait for the turn: what stood before, or before the second poll
-abbrev pub before_second : {K : Type 0} → Polled (Option (Unit {0})) → Poll StdioHandle (Option (Unit {0})) (Writer K) → Standing StdoutHandle (Writer K) → Standing StdoutHandle (Writer K)
-before_second Pending first before = before
-before_second (Ready None) first before = before
-before_second (Ready (Some done)) first before = record { handle = record { handle = first.handle; flushing = true }; turn = first.turn; stream = first.stream }
-before_second (Failed kind) first before = before
-
-abbrev pub stopped_from_first : {K : Type 0} → Poll StdioHandle (Option (Unit {0})) (Writer K) → Standing StdoutHandle (Writer K) → Standing StdoutHandle (Writer K)
-stopped_from_first first before = before_second first.answer first before
-
-abbrev pub flush_stopped_by : {K : Type 0} → StdoutHandle → Owner → Standing StdoutHandle (Writer K) → Standing StdoutHandle (Writer K)
-flush_stopped_by h who before = if h.flushing then before else stopped_from_first (first_poll h.handle who before.turn before.stream) before
-
-abbrev pub flush_stopped : {K : Type 0} → StdoutHandle → Owner → Turn → Writer K → Standing StdoutHandle (Writer K)
-flush_stopped h who turn w = flush_stopped_by h who (record { handle = h; turn = turn; stream = w })

@@ -1,5 +1,5 @@
 -- Who has the turn of a shared stream, and who waits for it, the first to get it first.
-use Rattle.std.specs.Prelude.{◌≡◌, ◌==◌, Bool, true, false, not, ◌&&◌, if◌then◌else◌, List, [], ◌∷◌, ◌++◌, Option, Some, None, IfSome, IfNone}
+use Rattle.std.specs.Prelude.{◌≡◌, ℕ, ◌==◌, Bool, true, false, not, ◌&&◌, if◌then◌else◌, List, [], ◌∷◌, ◌++◌, Option, Some, None, IfSome, IfNone}
 use Rattle.std.specs.List.{filter, list_any}
 use Rattle.wasi_cli.specs.declared.owner.Owner.{Owner}
 
@@ -53,3 +53,14 @@ after_free_by (Some holder) waiting who = if same holder who then passed waiting
 
 abbrev pub after_free : Turn → Owner → Turn
 after_free turn who = after_free_by turn.holder turn.waiting who
+
+-- a guest that ends gives up its turn, and each of its places among those that wait
+abbrev pub without_guest : ℕ → List Owner → List Owner
+without_guest guest waiting = filter (λ other. not (other.guest == guest)) waiting
+
+abbrev pub after_end_by : Option Owner → List Owner → ℕ → Turn
+after_end_by None waiting guest = record { holder = None; waiting = without_guest guest waiting }
+after_end_by (Some holder) waiting guest = if holder.guest == guest then passed (without_guest guest waiting) else record { holder = Some holder; waiting = without_guest guest waiting }
+
+abbrev pub after_end : Turn → ℕ → Turn
+after_end turn guest = after_end_by turn.holder turn.waiting guest

@@ -1,15 +1,15 @@
 ghost use Rattle.std.specs.Prelude.{◌≡◌, [], IfOk, OnErr};
-ghost use Rattle.wasi_cli.specs.Operations.{read_outcome, after_read, flush_outcome, after_flush, flushed_outcome, after_flushed};
+ghost use Rattle.wasi_cli.specs.Operations.{read_outcome, after_read};
 ghost use Rattle.wasi_cli.specs.Polls.{start_of, begun_handle, begun_turn, poll_answer, handle_after, turn_after, or_none, one_poll, with_none, stopped};
 ghost use Rattle.wasi_cli.specs.declared.outcome.Start.TheVariants.{Waits};
 
-use crate::operations::{flush_once_ready, flushed_once_ready, read_once_ready};
+use crate::operations::read_once_ready;
 use crate::outcome::{Outcome, Start};
 use crate::{Owner, Turns};
 use bytes::Bytes;
 use std::alloc::Global;
-use wasi_base::{OutOfMemory, Polled, Sink, Source};
-use wasi_streams::{AsyncReadStream, AsyncWriteStream};
+use wasi_base::{OutOfMemory, Polled, Source};
+use wasi_streams::AsyncReadStream;
 
 /// A handle on a shared stream, whose polls take turns with those of other handles.
 #[derive(Clone, Copy, Debug, PartialEq, Eq, Drop)]
@@ -117,42 +117,6 @@ impl StdioHandle {
                 Ok(outcome) => Ok(or_none(self.settle(who, turns, outcome), Bytes::new())),
                 Err(error) => Err(error),
             },
-            Err(error) => Err(error),
-        }
-    }
-
-    // the first poll of a flush, which asks for it
-    pub(crate) fn poll_flush_first<K: Sink + Drop>(
-        &mut self,
-        who: Owner,
-        turns: &mut Turns,
-        stream: &mut AsyncWriteStream<K>,
-    ) -> Result<Polled<Option<()>>, OutOfMemory>
-        ensures poll { IfOk result (λ answer. record { answer = answer; handle = self.new; turn = turns.new; stream = stream.new } ≡ one_poll self.old who turns.old stream.old (flush_outcome stream.old) (after_flush stream.old)) }
-        ensures memory { OnErr result ((start_of self.old turns.old who ≡ Waits) × (self.new ≡ self.old) × (turns.new ≡ turns.old) × (stream.new ≡ stream.old)) }
-    {
-        match self.begin(who, turns) {
-            Ok(Start::Ended) => Ok(Polled::Ready(None)),
-            Ok(Start::Waits) => Ok(Polled::Pending),
-            Ok(Start::Runs) => Ok(self.settle(who, turns, flush_once_ready(stream))),
-            Err(error) => Err(error),
-        }
-    }
-
-    // its second poll, which waits for its end
-    pub(crate) fn poll_flush_second<K: Sink + Drop>(
-        &mut self,
-        who: Owner,
-        turns: &mut Turns,
-        stream: &mut AsyncWriteStream<K>,
-    ) -> Result<Polled<Option<()>>, OutOfMemory>
-        ensures poll { IfOk result (λ answer. record { answer = answer; handle = self.new; turn = turns.new; stream = stream.new } ≡ one_poll self.old who turns.old stream.old (flushed_outcome stream.old) (after_flushed stream.old)) }
-        ensures memory { OnErr result ((self.new ≡ self.old) × (turns.new ≡ turns.old) × (stream.new ≡ stream.old)) }
-    {
-        match self.begin(who, turns) {
-            Ok(Start::Ended) => Ok(Polled::Ready(None)),
-            Ok(Start::Waits) => Ok(Polled::Pending),
-            Ok(Start::Runs) => Ok(self.settle(who, turns, flushed_once_ready(stream))),
             Err(error) => Err(error),
         }
     }

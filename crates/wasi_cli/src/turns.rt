@@ -1,5 +1,5 @@
-ghost use Rattle.std.specs.Prelude.{◌≡◌, false, [], None, IfOk, OnOk, OnErr};
-ghost use Rattle.wasi_cli.specs.Turns.{gets_turn, after_ask, after_free, joined, is_waiting, IsTurn};
+ghost use Rattle.std.specs.Prelude.{◌≡◌, false, [], Some, None, IfOk, OnOk, OnErr};
+ghost use Rattle.wasi_cli.specs.Turns.{gets_turn, after_ask, after_free, after_end, joined, is_waiting, IsTurn};
 
 use crate::Owner;
 use std::alloc::Global;
@@ -85,6 +85,37 @@ impl Turns {
             self.holder = self.waiting.pop_front();
         } else {
             self.waiting.retain(|waiting| *waiting != who);
+        }
+    }
+
+    /// The holder gives the turn on to the first that waits, and waits behind all others. Whether it
+    /// has the turn still, which it keeps where nobody waits. Takes no memory.
+    pub fn give_way(&mut self, who: Owner) -> bool
+        requires { self.old.holder ≡ Some who }
+        ensures answer { result ≡ gets_turn (after_free self.old who).holder who }
+        ensures after { self.new ≡ after_ask (after_free self.old who) who }
+    {
+        match self.waiting.front_mut() {
+            None => true,
+            Some(first) => {
+                let next = *first;
+                *first = who;
+                self.waiting.rotate_left(1);
+                self.holder = Some(next);
+                false
+            }
+        }
+    }
+
+    /// A guest that ends: each owner of it leaves those that wait, and where one has the turn, the
+    /// first of the rest has it next. Takes no memory.
+    pub fn free_guest(&mut self, guest: u32)
+        ensures { self.new ≡ after_end self.old guest }
+    {
+        self.waiting.retain(|waiting| waiting.guest != guest);
+        match self.holder {
+            Some(holder) if holder.guest == guest => self.holder = self.waiting.pop_front(),
+            Some(_) | None => {}
         }
     }
 }
