@@ -1,7 +1,8 @@
 -- What the answer of a run says of its script, for any program: which scripts are valid, and which are bad at a line, is the program's own.
-use Rattle.std.specs.Prelude.{◌≡◌, ℕ, Bool, false, List, [], ◌∷◌, Option, Result, Ok, Err}
+use Rattle.std.specs.Prelude.{◌≡◌, ℕ, ◌≤◌, ◌<◌, Bool, false, List, [], ◌∷◌, length, take, Option, Some, Result, Ok, Err}
 use Rattle.std.specs.Str.{bytes_eq}
 use Rattle.wasi_base.specs.Source.{Told}
+use Rattle.wasi_base.specs.Sink.{with_more}
 use Rattle.wasi_commands.specs.Reading.{IsReadWhole, IsReadPast, IsReadInPart}
 use Rattle.wasi_commands.specs.declared.program.RunError.{RunError}
 use Rattle.wasi_commands.specs.declared.program.RunError.TheVariants as run
@@ -50,6 +51,19 @@ OnWriteFault _ P = Unit {0}
 abbrev pub OnNoMemory : ProgramError → Type 0 → Type 0
 OnNoMemory OutOfMemory P = P
 OnNoMemory _ P = Unit {0}
+
+-- of a run's text a sink took a part alone, and the run left its input so
+pub record IsTakenInPart (text : List ℕ) (left : Told) (taken_before taken_after : Option (List ℕ)) (told_after : Option Told) : Type 0 where
+  pub count : ℕ
+  pub part : count < length text
+  pub out : taken_after ≡ with_more taken_before (take count text)
+  pub stdin : told_after ≡ Some left
+
+-- an input is left as some first steps of a run leave it
+pub record IsLeftByFirst {Step : Type 0} (steps : List Step) (left_by : List Step → Told) (told_after : Option Told) : Type 0 where
+  pub count : ℕ
+  pub within : count ≤ length steps
+  pub stdin : told_after ≡ Some (left_by (take count steps))
 
 -- the words of a command on a file, as `run FILE`, where FILE is any word
 abbrev pub is_command_on_file : List ℕ → List (List ℕ) → Bool
