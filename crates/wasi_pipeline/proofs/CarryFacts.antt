@@ -4,13 +4,13 @@ use Rattle.std.proofs.lemmas.Bool.Decides.{nat_tests}
 use Rattle.std.specs.Prelude.{nat_eq, ◌&&◌}
 use Rattle.wasi_reply.specs.declared.reply.Reply.TheVariants as reply
 use Rattle.wasi_pipeline.specs.Chain.{Chain, Turned, done, after_drain, after_moving, closed, drain_reply, drained, holding, is_done, room_of, shown, turned, turned_at, with_output}
-use Rattle.wasi_pipeline.specs.Conservation.{Carries, Passes, bytes_shown, last_after}
-use Rattle.wasi_pipeline.specs.Kinds.{made, moving}
+use Rattle.wasi_pipeline.specs.Conservation.{Carries, Passes, bytes_shown}
+use Rattle.wasi_pipeline.specs.Kinds.{become_all, last_after, made, moving}
 use Rattle.wasi_pipeline.specs.declared.stage.Channel.{Channel}
 use Rattle.wasi_pipeline.specs.declared.stage.Stage.{Stage}
 use Rattle.wasi_pipeline.specs.declared.stage.Turn.{Turn}
 use Rattle.wasi_pipeline.specs.declared.stage.Turn.TheVariants.{Pump, Stop}
-use Rattle.wasi_pipeline.proofs.MadeFacts.{made_after, made_more, last_both, moves}
+use Rattle.wasi_pipeline.proofs.MadeFacts.{made_more, last_both, moves}
 
 -- a link that holds the same within the same bound carries the same, whatever its ends are
 pub ends_apart : (put : List ℕ) (old new : Channel) (stages : List Stage) (out : List ℕ) → old.link ≡ new.link → Carries put old stages out → Carries put new stages out
@@ -45,7 +45,7 @@ moved put input stage stages out most carries =
     let did = moves stage.kind stage.last most (room_of stage.output.link) input.link.held in
     let before = carries.0 in
     let last : it.last ≡ last_after None (before ++ did.taken) = did.last_is ∙ ap (λ last. last_after last did.taken) carries.2 ∙ last_both None before did.taken in
-    let made_is : made stage.kind before ++ it.made ≡ made stage.kind (before ++ did.taken) = ap (λ more. made stage.kind before ++ more) (did.made ∙ ap (λ last. made_after stage.kind last did.taken) carries.2) ∙ made_more stage.kind before did.taken in (
+    let made_is : made stage.kind before ++ it.made ≡ made stage.kind (before ++ did.taken) = ap (λ more. made stage.kind before ++ more) (did.made ∙ ap (λ last. become_all stage.kind last did.taken) carries.2) ∙ made_more stage.kind before did.taken in (
       before ++ did.taken,
       less_passes put did.taken it.left before input did.whole carries.1,
       last,

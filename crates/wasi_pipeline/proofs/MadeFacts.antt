@@ -1,52 +1,51 @@
 -- What a stage makes byte by byte is what its kind makes of all of them.
-use Rattle.std.proofs.Common.{◌≡◌, ℕ, zero, suc, ◌-◌, ◌≤◌, ◌++◌, Bool, true, false, cond, List, [], ◌∷◌, length, length-append, map, Option, Some, None, refl, ap, arith, ◌∙◌, sym, append_assoc}
+use Rattle.std.proofs.Common.{◌≡◌, ℕ, zero, suc, ◌-◌, ◌≤◌, ◌++◌, Bool, true, false, cond, List, [], ◌∷◌, length, length-append, map, Option, Some, None, refl, ap, arith, ◌∙◌, sym, append_assoc, append-nil}
 use Rattle.std.proofs.lemmas.Bool.Decides.{nat_tests}
 use Rattle.std.specs.Prelude.{nat_eq, nat_le}
 use Rattle.hex.specs.Hex.{encode_lower, encode_with}
-use Rattle.wasi_pipeline.specs.Conservation.{last_after}
-use Rattle.wasi_pipeline.specs.Kinds.{Moved, becomes, made, moving, squeezed_after, stays, upper_of, with_byte}
+use Rattle.wasi_pipeline.specs.Kinds.{Moved, become_all, becomes, last_after, made, moving, squeezed_after, stays, upper_of, with_byte}
 use Rattle.wasi_pipeline.specs.declared.kind.StageKind.{StageKind}
 use Rattle.wasi_pipeline.specs.declared.kind.StageKind.TheVariants.{Copy, Upper, Hex, Squeeze}
 
-abbrev pub made_after : StageKind → Option ℕ → List ℕ → List ℕ
-made_after kind last [] = []
-made_after kind last (byte ∷ bytes) = becomes kind last byte ++ made_after kind (Some byte) bytes
-
-copied : (last : Option ℕ) (bytes : List ℕ) → made_after Copy last bytes ≡ bytes
+copied : (last : Option ℕ) (bytes : List ℕ) → become_all Copy last bytes ≡ bytes
 copied last [] = refl
 copied last (byte ∷ bytes) = ap (λ rest. byte ∷ rest) (copied (Some byte) bytes)
 
-raised : (last : Option ℕ) (bytes : List ℕ) → made_after Upper last bytes ≡ map upper_of bytes
+raised : (last : Option ℕ) (bytes : List ℕ) → become_all Upper last bytes ≡ map upper_of bytes
 raised last [] = refl
 raised last (byte ∷ bytes) = ap (λ rest. upper_of byte ∷ rest) (raised (Some byte) bytes)
 
-encoded : (last : Option ℕ) (bytes : List ℕ) → made_after Hex last bytes ≡ encode_lower bytes
+encoded : (last : Option ℕ) (bytes : List ℕ) → become_all Hex last bytes ≡ encode_lower bytes
 unfolding encode_with
 encoded last [] = refl
 encoded last (byte ∷ bytes) = ap (λ rest. encode_lower (byte ∷ []) ++ rest) (encoded (Some byte) bytes)
 
-squeezed_is : (before : ℕ) (bytes : List ℕ) → made_after Squeeze (Some before) bytes ≡ squeezed_after before bytes
+squeezed_is : (before : ℕ) (bytes : List ℕ) → become_all Squeeze (Some before) bytes ≡ squeezed_after before bytes
 squeezed_is before [] = refl
 squeezed_is before (byte ∷ bytes) = one (nat_eq before byte) (squeezed_is byte bytes)
   where
-    one : (same : Bool) → made_after Squeeze (Some byte) bytes ≡ squeezed_after byte bytes → cond same [] (byte ∷ []) ++ made_after Squeeze (Some byte) bytes ≡ cond same (squeezed_after byte bytes) (byte ∷ squeezed_after byte bytes)
+    one : (same : Bool) → become_all Squeeze (Some byte) bytes ≡ squeezed_after byte bytes → cond same [] (byte ∷ []) ++ become_all Squeeze (Some byte) bytes ≡ cond same (squeezed_after byte bytes) (byte ∷ squeezed_after byte bytes)
     one true is = is
     one false is = ap (λ rest. byte ∷ rest) is
 
-pub made_is : (kind : StageKind) (bytes : List ℕ) → made_after kind None bytes ≡ made kind bytes
+pub made_is : (kind : StageKind) (bytes : List ℕ) → become_all kind None bytes ≡ made kind bytes
 made_is Copy bytes = copied None bytes
 made_is Upper bytes = raised None bytes
 made_is Hex bytes = encoded None bytes
 made_is Squeeze [] = refl
 made_is Squeeze (byte ∷ bytes) = ap (λ rest. byte ∷ rest) (squeezed_is byte bytes)
 
-made_both : (kind : StageKind) (last : Option ℕ) (first bytes : List ℕ) → made_after kind last (first ++ bytes) ≡ made_after kind last first ++ made_after kind (last_after last first) bytes
+made_both : (kind : StageKind) (last : Option ℕ) (first bytes : List ℕ) → become_all kind last (first ++ bytes) ≡ become_all kind last first ++ become_all kind (last_after last first) bytes
 made_both kind last [] bytes = refl
-made_both kind last (byte ∷ first) bytes = ap (λ rest. becomes kind last byte ++ rest) (made_both kind (Some byte) first bytes) ∙ sym (append_assoc (becomes kind last byte) (made_after kind (Some byte) first) (made_after kind (last_after (Some byte) first) bytes))
+made_both kind last (byte ∷ first) bytes = ap (λ rest. becomes kind last byte ++ rest) (made_both kind (Some byte) first bytes) ∙ sym (append_assoc (becomes kind last byte) (become_all kind (Some byte) first) (become_all kind (last_after (Some byte) first) bytes))
 
 -- what is made of more bytes, after those that were taken before
-pub made_more : (kind : StageKind) (first bytes : List ℕ) → made kind first ++ made_after kind (last_after None first) bytes ≡ made kind (first ++ bytes)
-made_more kind first bytes = ap (λ made. made ++ made_after kind (last_after None first) bytes) (sym (made_is kind first)) ∙ sym (made_both kind None first bytes) ∙ made_is kind (first ++ bytes)
+pub made_more : (kind : StageKind) (first bytes : List ℕ) → made kind first ++ become_all kind (last_after None first) bytes ≡ made kind (first ++ bytes)
+made_more kind first bytes = ap (λ made. made ++ become_all kind (last_after None first) bytes) (sym (made_is kind first)) ∙ sym (made_both kind None first bytes) ∙ made_is kind (first ++ bytes)
+
+-- .. and of one byte more
+pub made_one : (kind : StageKind) (last : Option ℕ) (first : List ℕ) (byte : ℕ) → become_all kind last (first ++ byte ∷ []) ≡ become_all kind last first ++ becomes kind (last_after last first) byte
+made_one kind last first byte = made_both kind last first (byte ∷ []) ∙ ap (λ more. become_all kind last first ++ more) (append-nil (becomes kind (last_after last first) byte))
 
 pub last_both : (last : Option ℕ) (first bytes : List ℕ) → last_after (last_after last first) bytes ≡ last_after last (first ++ bytes)
 last_both last [] bytes = refl
@@ -56,7 +55,7 @@ last_both last (byte ∷ first) bytes = last_both (Some byte) first bytes
 pub record Moves (kind : StageKind) (last : Option ℕ) (room : ℕ) (held : List ℕ) (moved : Moved) : Type 0 where
   pub taken : List ℕ
   pub whole : held ≡ taken ++ moved.left
-  pub made : moved.made ≡ made_after kind last taken
+  pub made : moved.made ≡ become_all kind last taken
   pub last_is : moved.last ≡ last_after last taken
   pub fits : length moved.made ≤ room
 

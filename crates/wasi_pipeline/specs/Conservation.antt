@@ -6,7 +6,7 @@ use Rattle.wasi_reply.specs.declared.reply.Told.TheVariants as told
 use Rattle.wasi_reply.specs.declared.reply.Reply.{Reply}
 use Rattle.wasi_reply.specs.declared.reply.Reply.TheVariants as reply
 use Rattle.wasi_pipeline.specs.Grammar.{AllStand, nothing_declared}
-use Rattle.wasi_pipeline.specs.Kinds.{made}
+use Rattle.wasi_pipeline.specs.Kinds.{last_after, made}
 use Rattle.wasi_pipeline.specs.Run.{pipe_end, replies, told_end}
 use Rattle.wasi_pipeline.specs.Steps.{new_pipe}
 use Rattle.wasi_pipeline.specs.declared.stage.Channel.{Channel}
@@ -17,11 +17,6 @@ use Rattle.wasi_pipeline.specs.declared.line.Line.{Line}
 pub record Passes (put : List ℕ) (channel : Channel) (taken : List ℕ) : Type 0 where
   pub whole : put ≡ taken ++ channel.link.held
   pub within : length channel.link.held ≤ channel.link.bound
-
--- the last of some bytes
-abbrev pub last_after : Option ℕ → List ℕ → Option ℕ
-last_after before [] = before
-last_after before (byte ∷ bytes) = last_after (Some byte) bytes
 
 -- a link into which these bytes were put, and the stages after it: what a stage put into its link is what its kind makes of
 -- what it took, and `out` was taken out of the last link

@@ -42,6 +42,23 @@ made_bytes Nothing = []
 made_bytes (One byte) = byte ∷ []
 made_bytes (Two first second) = first ∷ second ∷ []
 
+-- the most bytes that one byte becomes
+abbrev pub most_made : StageKind → ℕ
+most_made Copy = 1
+most_made Upper = 1
+most_made Hex = 2
+most_made Squeeze = 1
+
+-- what bytes become in order, after the last one before them
+abbrev pub become_all : StageKind → Option ℕ → List ℕ → List ℕ
+become_all kind last [] = []
+become_all kind last (byte ∷ bytes) = becomes kind last byte ++ become_all kind (Some byte) bytes
+
+-- the last of some bytes, or else of those before them
+abbrev pub last_after : Option ℕ → List ℕ → Option ℕ
+last_after before [] = before
+last_after before (byte ∷ bytes) = last_after (Some byte) bytes
+
 -- what a stage did: how many bytes it took, the last one, those that are left, and what it made
 pub record Moved : Type 0 where
   pub count : ℕ

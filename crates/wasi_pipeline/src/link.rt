@@ -90,8 +90,17 @@ impl Link {
     {
         let count = most.min(self.held());
         let mut bytes = vec![in alloc; 0u8; count as usize]?;
-        self.ring.read_into(&mut bytes);
+        self.take_into(&mut bytes);
         Ok(bytes)
+    }
+
+    /// Takes the first bytes out, as many as there is room for here. It must hold so many.
+    pub(crate) fn take_into(&mut self, bytes: &mut [u8])
+        requires { length bytes.old ≤ length self.old.held }
+        ensures bytes { bytes.new ≡ take (length bytes.old) self.old.held }
+        ensures rest { self.new ≡ record { bound = self.old.bound; held = drop (length bytes.old) self.old.held } }
+    {
+        self.ring.read_into(bytes);
     }
 
     /// Puts bytes behind those that are held. There must be room for all of them.

@@ -1,7 +1,7 @@
-ghost use Rattle.std.specs.Prelude.{◌≡◌, ◌++◌, ◌-◌, ◌≤◌, length, false, None, IfOk, OnOk, OnErr};
+ghost use Rattle.std.specs.Prelude.{◌≡◌, ◌++◌, ◌-◌, ◌*◌, ◌≤◌, length, take, drop, false, None, IfOk, OnOk, OnErr};
 ghost use Rattle.wasi_pipeline.specs.Chain.{Turned, is_done, pumped, stopped, turned, room_of, holding, drain_reply, after_drain, new_channel};
 ghost use Rattle.wasi_pipeline.specs.Feeding.{OnFailed};
-ghost use Rattle.wasi_pipeline.specs.Kinds.{moving, made_bytes};
+ghost use Rattle.wasi_pipeline.specs.Kinds.{become_all, last_after, made_bytes, most_made, moving};
 
 use crate::kind::{Made, StageKind};
 use crate::link::Link;
@@ -140,6 +140,9 @@ impl Stage {
     }
 }
 
+/// The most bytes that move at once.
+const PIECE: usize = 1024;
+
 // takes bytes in order, at most so many, each only while there is room for what it becomes
 fn move_bytes(
     kind: StageKind,
@@ -148,6 +151,55 @@ fn move_bytes(
     to: &mut Link,
     most: u32,
 ) -> u32
+    ensures count { result ≡ (moving kind last.old most (room_of to.old) from.old.held).count }
+    ensures last { last.new ≡ (moving kind last.old most (room_of to.old) from.old.held).last }
+    ensures left { from.new ≡ record { bound = from.old.bound; held = (moving kind last.old most (room_of to.old) from.old.held).left } }
+    ensures made { to.new ≡ record { bound = to.old.bound; held = to.old.held ++ (moving kind last.old most (room_of to.old) from.old.held).made } }
+{
+    let mut count = 0;
+    'pieces: while count < most {
+        let piece = move_piece(kind, last, from, to, most - count);
+        if piece == 0 {
+            return count + move_singly(kind, last, from, to, most - count);
+        }
+        count += piece;
+    }
+    count
+}
+
+// takes bytes in order, at most so many, for which there is room whatever they become
+fn move_piece(
+    kind: StageKind,
+    last: &mut Option<u8>,
+    from: &mut Link,
+    to: &mut Link,
+    most: u32,
+) -> u32
+    ensures within { (result ≤ most) × (result ≤ length from.old.held) × (most_made kind * result ≤ room_of to.old) }
+    ensures last { last.new ≡ last_after last.old (take result from.old.held) }
+    ensures left { from.new ≡ record { bound = from.old.bound; held = drop result from.old.held } }
+    ensures made { to.new ≡ record { bound = to.old.bound; held = to.old.held ++ become_all kind last.old (take result from.old.held) } }
+{
+    let fitting = to.room() / kind.most_made();
+    let count = most.min(from.held()).min(fitting).min(PIECE as u32);
+    let mut taken = [0u8; PIECE];
+    let taken = &mut taken[..count as usize];
+    from.take_into(taken);
+    let mut made = [0u8; 2 * PIECE];
+    let length = kind.make(last, taken, &mut made);
+    to.put_all(&made[..length]);
+    count
+}
+
+// the same, byte by byte
+fn move_singly(
+    kind: StageKind,
+    last: &mut Option<u8>,
+    from: &mut Link,
+    to: &mut Link,
+    most: u32,
+) -> u32
+    ensures within { result ≤ most }
     ensures count { result ≡ (moving kind last.old most (room_of to.old) from.old.held).count }
     ensures last { last.new ≡ (moving kind last.old most (room_of to.old) from.old.held).last }
     ensures left { from.new ≡ record { bound = from.old.bound; held = (moving kind last.old most (room_of to.old) from.old.held).left } }

@@ -76,6 +76,73 @@ fn a_stop_leaves_what_is_in_the_links(rt: HostRuntime) -> Result<(), Fail> {
     )
 }
 
+#[test]
+fn a_stop_in_the_front_and_at_the_end(rt: HostRuntime) -> Result<(), Fail> {
+    let none = Vec::new(rt.alloc());
+    plays(
+        &rt,
+        rt.alloc(),
+        b"link 4\nstage copy 4\nstage copy 4\nfeed 4\nstop 1\nfeed 1\npump 1 1\npump 2 4\ndrain 1\n",
+        b"abcdef",
+        none,
+        b"ok\nok\nok\ncount 4\nok\nclosed\nended\nclosed\nclosed\n",
+        b"ef",
+    )?;
+    let none = Vec::new(rt.alloc());
+    plays(
+        &rt,
+        rt.alloc(),
+        b"link 4\nstage copy 4\nstage copy 4\nfeed 4\npump 1 4\npump 2 1\nstop 2\npump 1 4\nfeed 4\nfeed 1\ndrain 4\ndrain 4\n",
+        b"abcdef",
+        none,
+        b"ok\nok\nok\ncount 4\ncount 4\ncount 1\nok\nclosed\ncount 2\nclosed\nbytes 61\nclosed\n",
+        b"",
+    )
+}
+
+#[test]
+fn bytes_go_through_fifteen_stages(rt: HostRuntime) -> Result<(), Fail> {
+    let none = Vec::new(rt.alloc());
+    plays(
+        &rt,
+        rt.alloc(),
+        b"link 2\nstage copy 2\nstage copy 2\nstage copy 2\nstage copy 2\nstage copy 2\nstage copy 2\nstage copy 2\nstage upper 2\nstage copy 2\nstage copy 2\nstage copy 2\nstage copy 2\nstage copy 2\nstage copy 2\nstage hex 4\nfeed 2\npump 1 2\npump 2 2\npump 3 2\npump 4 2\npump 5 2\npump 6 2\npump 7 2\npump 8 2\npump 9 2\npump 10 2\npump 11 2\npump 12 2\npump 13 2\npump 14 2\npump 15 2\ndrain 4\n",
+        b"k{z",
+        none,
+        b"ok\nok\nok\nok\nok\nok\nok\nok\nok\nok\nok\nok\nok\nok\nok\nok\ncount 2\ncount 2\ncount 2\ncount 2\ncount 2\ncount 2\ncount 2\ncount 2\ncount 2\ncount 2\ncount 2\ncount 2\ncount 2\ncount 2\ncount 2\ncount 2\nbytes 34623762\n",
+        b"z",
+    )
+}
+
+#[test]
+fn links_hold_65536_bytes(rt: HostRuntime) -> Result<(), Fail> {
+    let none = Vec::new(rt.alloc());
+    let input = vec![in rt.alloc(); 0u8; 70000]?;
+    plays(
+        &rt,
+        rt.alloc(),
+        b"link 65536\nstage hex 65536\nstage squeeze 2\nfeed 65536\nfeed 1\npump 1 65536\ndrain 1\npump 1 1\npump 2 1\npump 1 1\npump 2 1\npump 1 1\npump 2 65536\npump 1 65536\ndrain 2\n",
+        &input,
+        none,
+        b"ok\nok\nok\ncount 65536\ncount 0\ncount 32768\nbytes -\ncount 0\ncount 1\ncount 0\ncount 1\ncount 1\ncount 65536\ncount 32767\nbytes 30\n",
+        &input[65536..],
+    )
+}
+
+#[test]
+fn repeats_need_no_room(rt: HostRuntime) -> Result<(), Fail> {
+    let none = Vec::new(rt.alloc());
+    plays(
+        &rt,
+        rt.alloc(),
+        b"link 8\nstage squeeze 2\nfeed 8\npump 1 8\ndrain 2\npump 1 8\ndrain 2\n",
+        b"aabbbbcc",
+        none,
+        b"ok\nok\ncount 8\ncount 6\nbytes 6162\ncount 2\nbytes 63\n",
+        b"",
+    )
+}
+
 // the status, and what standard error got
 fn ends(
     rt: &impl Abort,
@@ -99,7 +166,7 @@ fn ends(
 }
 
 #[test]
-fn scripts_that_are_refused(rt: HostRuntime) -> Result<(), Fail> {
+fn words_and_valid_scripts(rt: HostRuntime) -> Result<(), Fail> {
     let alloc = rt.alloc();
     ends(&rt, alloc, "run", b"", 2, b"usage: wasi_pipe pipe FILE\n")?;
     ends(&rt, alloc, "pipe", b"", 0, b"")?;
@@ -110,62 +177,58 @@ fn scripts_that_are_refused(rt: HostRuntime) -> Result<(), Fail> {
         b"link 65536\n# note\nstage hex 2",
         0,
         b"",
-    )?;
-    ends(&rt, alloc, "pipe", b"link 1\n", 5, b"bad script: line 1\n")?;
-    ends(
-        &rt,
-        alloc,
-        "pipe",
-        b"link 65537\n",
-        5,
-        b"bad script: line 1\n",
-    )?;
-    ends(
-        &rt,
-        alloc,
-        "pipe",
-        b"\nfeed 1\n",
-        5,
-        b"bad script: line 2\n",
-    )?;
-    ends(
-        &rt,
-        alloc,
-        "pipe",
+    )
+}
+
+// the script is refused, and this is told
+fn refused(rt: &impl Abort, alloc: Global, script: &[u8], line: &[u8]) -> Result<(), Fail> {
+    ends(rt, alloc, "pipe", script, 5, line)
+}
+
+#[test]
+fn each_bad_line_has_its_number(rt: HostRuntime) -> Result<(), Fail> {
+    let first: [&[u8]; 8] = [
+        b"link 1\n",
+        b"link 65537",
+        b"link 2 2\n",
+        b"link  2\n",
+        b"link\t2\n",
+        b" link 2\n",
+        b"stage copy 2\n",
+        b"feed 1\n",
+    ];
+    for script in first {
+        refused(&rt, rt.alloc(), script, b"bad script: line 1\n")?;
+    }
+    let second: [&[u8]; 8] = [
         b"link 2\nlink 2\n",
-        5,
-        b"bad script: line 2\n",
-    )?;
-    ends(
-        &rt,
-        alloc,
-        "pipe",
-        b"link 2\nfeed 1\nstage hex 2\n",
-        5,
-        b"bad script: line 3\n",
-    )?;
-    ends(
-        &rt,
-        alloc,
-        "pipe",
         b"link 2\npump 1 1\n",
-        5,
-        b"bad script: line 2\n",
-    )?;
-    ends(
-        &rt,
-        alloc,
-        "pipe",
-        b"link 2\ndrain 0\n",
-        5,
-        b"bad script: line 2\n",
-    )?;
-    ends(
-        &rt,
-        alloc,
-        "pipe",
+        b"link 2\nstop 1\n",
+        b"link 2\nfeed 0\n",
+        b"link 2\nfeed 65537\n",
+        b"link 2\ndrain\n",
         b"link 2\nstage Hex 2\n",
-        5,
-        b"bad script: line 2\n",
+        b"# note\nlink +2\nlink 1\n",
+    ];
+    for script in second {
+        refused(&rt, rt.alloc(), script, b"bad script: line 2\n")?;
+    }
+    let third: [&[u8]; 7] = [
+        b"link 2\nstage hex 2\npump 2 1\n",
+        b"link 2\nstage hex 2\npump 0 1\n",
+        b"link 2\nstage hex 2\npump 1 0\n",
+        b"link 2\nstage hex 2\nstop 16\n",
+        b"link 2\n\nstage hex 1",
+        b"link 2\nfeed 1\nstage hex 2\n",
+        b"link 2\nstage copy 00002\ndrain 65536 \n",
+    ];
+    for script in third {
+        refused(&rt, rt.alloc(), script, b"bad script: line 3\n")?;
+    }
+    refused(
+        &rt,
+        rt.alloc(),
+        b"link 2\nstage copy 2\nstage copy 2\nstage copy 2\nstage copy 2\nstage copy 2\nstage copy 2\nstage copy 2\nstage copy 2\nstage copy 2\nstage copy 2\nstage copy 2\nstage copy 2\nstage copy 2\nstage copy 2\nstage copy 2\nstage copy 2\n",
+        b"bad script: line 17\n",
     )
 }

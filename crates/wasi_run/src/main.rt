@@ -2,31 +2,15 @@
 #![tactic(auto)]
 
 use std::alloc::Global;
+use std::io;
 use std::process::ExitCode;
-use std::{env, io};
 use wasi_base::{FileSource, StdSink, StdSource, write_all};
+use wasi_commands::{command_words, file_named};
 use wasi_session::run_program;
 
-fn words_of(rt: &HostRuntime) -> io::Result<Vec<String>> {
-    let mut words = Vec::new(rt.alloc());
-    for word in env::args(rt)?.skip(1) {
-        if words.push(word).is_err() {
-            return Err(io::Error::from(io::ErrorKind::OutOfMemory));
-        }
-    }
-    Ok(words)
-}
-
 fn run(rt: &HostRuntime, alloc: Global) -> io::Result<u8> {
-    let words = match words_of(rt) {
-        // a word that is not UTF-8 is unrecognised
-        Err(error) if error.kind() == io::ErrorKind::InvalidData => Vec::new(alloc),
-        words => words?,
-    };
-    let path = match words.get(1) {
-        Some(file) => String::from_str(alloc, file.as_str())?,
-        None => String::new(alloc),
-    };
+    let words = command_words(rt)?;
+    let path = file_named(alloc, &words)?;
     let mut script = StdSource::new(rt.stdin());
     let mut stdin = FileSource::new(rt, path);
     let mut out = StdSink::new(rt.stdout());

@@ -4,8 +4,8 @@ use Rattle.wasi_pipeline.specs.Kinds.{moving}
 use Rattle.wasi_pipeline.proofs.stage.move_bytes.Given as goal
 
 -- what is done so far, and what is left to do, are what is to be done
-abbrev pub invariant-bytes : goal.invariant-bytes
-invariant-bytes l =
+abbrev pub invariant-pieces : goal.invariant-pieces
+invariant-pieces l =
     let rest = moving l.kind l.last (l.most - l.count) (room_of l.to) l.from.held in
     let whole = moving l.kind l.fn.last l.most (room_of l.fn.to) l.fn.from.held in
     record {
@@ -18,5 +18,5 @@ invariant-bytes l =
       made : l.to.held ++ rest.made ≡ l.fn.to.held ++ whole.made;
     }
 
-abbrev pub decreases-bytes : goal.decreases-bytes
-decreases-bytes l = l.most - l.count
+abbrev pub decreases-pieces : goal.decreases-pieces
+decreases-pieces l = l.most - l.count
