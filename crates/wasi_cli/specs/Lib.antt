@@ -5,3 +5,5 @@ pub mod Operations
 pub mod Polls
 pub mod StdoutPolls
 pub mod Promises
+pub mod Texts
+pub mod Environment

@@ -1,7 +1,8 @@
-//! Standard streams as a guest is given them: which stream a kind stands for, whose turn it is on
-//! a stream that several entries share, and the calls and polls of such a stream.
+//! Standard streams as a guest is given them, and what it is told of its command line.
 #![tactic(auto)]
 
+mod context;
+mod exits;
 mod forwards;
 mod handle;
 mod kinds;
@@ -12,11 +13,15 @@ mod owner;
 mod shared;
 mod stdout_handle;
 mod streams;
+mod terminals;
 #[cfg(test)]
 mod tests;
+mod texts;
 mod turns;
 mod units;
 
+pub use context::WasiCliCtx;
+pub use exits::{exit, exit_with_code};
 pub use handle::StdioHandle;
 pub use kinds::{InKind, OutKind};
 pub use laws::{freed_owners_are_gone, turns_pass_in_order};
@@ -26,5 +31,7 @@ pub use shared::{
 };
 pub use stdout_handle::StdoutHandle;
 pub use streams::{IsTerminal, P2In, P2Out, PolledIn, PolledOut, StdinStream, StdoutStream};
+pub use terminals::{IsATTY, TerminalInput, TerminalOutput};
+pub use texts::{ArgList, CwdText, EnvList};
 pub use turns::Turns;
 pub use units::{AsyncStdinStream, AsyncStdoutStream, Empty, Stderr, Stdin, Stdout};

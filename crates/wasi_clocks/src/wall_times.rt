@@ -14,7 +14,7 @@ impl WallTime {
     ghost use Rattle.wasi_clocks.specs.WallTimes.{no_time, one_nanosecond};
 
     /// The epoch as a time, or no time at all as a length.
-    pub(crate) fn zero() -> WallTime
+    pub fn zero() -> WallTime
         ensures { result ≡ no_time }
     {
         WallTime {
@@ -23,7 +23,8 @@ impl WallTime {
         }
     }
 
-    pub(crate) fn one_nanosecond() -> WallTime
+    /// One nanosecond as a length.
+    pub fn one_nanosecond() -> WallTime
         ensures { result ≡ one_nanosecond }
     {
         WallTime {

@@ -37,14 +37,21 @@ pub enum Generator {
     Caller(Box<dyn HostRng + Send>),
 }
 
-/// A generator that a number decides: ChaCha with 20 rounds, whose seed is the number's 8 bytes,
-/// the lowest first, and then 24 zero bytes. No system's randomness is in it.
-pub fn thread_rng(seed: u64) -> Generator
-    ensures { result ≡ Generator.Seeded (of_seed (seed_bytes seed)) }
+/// ChaCha with 20 rounds, whose seed is the number's 8 bytes, the lowest first, and then 24 zero
+/// bytes. No system's randomness is in it.
+pub fn seeded_rng(seed: u64) -> ChaCha20Rng
+    ensures { result ≡ of_seed (seed_bytes seed) }
 {
     let mut bytes = [0u8; 32];
     bytes[..8].copy_from_slice(&seed.to_le_bytes());
-    Generator::Seeded(ChaCha20Rng::from_seed(bytes))
+    ChaCha20Rng::from_seed(bytes)
+}
+
+/// A generator that a number decides: `seeded_rng` of it.
+pub fn thread_rng(seed: u64) -> Generator
+    ensures { result ≡ Generator.Seeded (of_seed (seed_bytes seed)) }
+{
+    Generator::Seeded(seeded_rng(seed))
 }
 
 fn next_word_of(rng: &mut Box<dyn HostRng + Send>) -> u32

@@ -12,4 +12,4 @@ mod tests;
 pub use bytes::{RandomBytes, RandomRefused};
 pub use context::{DEFAULT_MAX_SIZE, WasiRandomCtx};
 pub use deterministic::Deterministic;
-pub use generator::{Generator, HostRng, thread_rng};
+pub use generator::{Generator, HostRng, seeded_rng, thread_rng};

@@ -1,0 +1,3 @@
+pub mod Sockets
+pub mod Entries
+pub mod Pushes

@@ -1,0 +1,28 @@
+/// The interfaces of WASI 0.2 that contexts can be named for.
+#[derive(Clone, Copy, Debug, PartialEq, Eq, Drop)]
+pub enum Interface {
+    ClocksMonotonicClock,
+    ClocksWallClock,
+    RandomRandom,
+    RandomInsecure,
+    RandomInsecureSeed,
+    CliExit,
+    CliEnvironment,
+    CliStdin,
+    CliStdout,
+    CliStderr,
+    CliTerminalInput,
+    CliTerminalOutput,
+    CliTerminalStdin,
+    CliTerminalStdout,
+    CliTerminalStderr,
+    FilesystemTypes,
+    FilesystemPreopens,
+    SocketsInstanceNetwork,
+    SocketsNetwork,
+    SocketsIpNameLookup,
+    SocketsTcpCreateSocket,
+    SocketsTcp,
+    SocketsUdpCreateSocket,
+    SocketsUdp,
+}
