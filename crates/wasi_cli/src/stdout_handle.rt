@@ -112,7 +112,7 @@ impl StdoutHandle {
 
     /// Asks for a flush, and then waits for its end, each once the turn is this handle's and the
     /// stream is ready. In between the turn is given on, and asked for behind all that wait. A
-    /// fault of the flush is told here. Ready from a closed handle. Want of memory changes nothing.
+    /// fault of the flush is told here. Ready from a closed handle. Out of memory changes nothing.
     pub fn poll_flush<K: Sink + Drop>(
         &mut self,
         who: Owner,
