@@ -1,6 +1,6 @@
 ghost use Rattle.std.specs.Prelude.{◌≡◌};
 
-use crate::{LentView, Table, WasiCliCtxView};
+use crate::{LentView, WasiCliCtxView};
 use wasi_random::WasiRandomCtx;
 
 /// A host that lends its whole context, `C`, with the guest's table.

@@ -16,6 +16,8 @@ pub mod p2;
 pub mod p3;
 mod socket_error;
 mod sockets;
+#[cfg(test)]
+mod tests;
 mod views;
 
 pub use addresses::{SockAddr, SocketAddrUse};

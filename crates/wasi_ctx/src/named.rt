@@ -4,10 +4,10 @@ ghost use Rattle.wasi_cli.specs.Kinds.{in_p2, out_p2, in_terminal, out_terminal}
 ghost use Rattle.wasi_ctx.specs.Pushes.{IsTerminalPush};
 ghost use Rattle.wasi_ctx.specs.declared.entry.Entry.TheVariants as entry;
 
-use crate::{LentView, NamedId, Table, WasiCliCtxView};
+use crate::{Entry, LentView, NamedId, WasiCliCtxView};
 use std::alloc::Global;
 use wasi_base::OutOfMemory;
-use wasi_cli::{ArgList, CwdText, EnvList, WasiCliCtx};
+use wasi_cli::{ArgList, CwdText, EnvList, IsTerminal, StdinStream, StdoutStream, WasiCliCtx};
 use wasi_table::TableError;
 
 /// A host that lends each of a guest's contexts, `C`, by its name, with the guest's table.
@@ -65,8 +65,8 @@ pub trait WasiRandomNamedView<C>: Send {
         ensures { result.now ≡ random_of self.entry.now id };
 }
 
-/// The same of what a guest is told of its command line. The calls that make entries say what
-/// they do to the whole host: it is as before but for its table.
+/// The same of what a guest is told of its command line. A host says how a context is read and
+/// how an entry is made; the calls are then those of `WasiCliCtxView` on the named context.
 pub trait WasiCliNamedView: Send {
     ghost use Rattle.std.specs.Prelude.{◌≡◌, None};
     ghost use Rattle.wasi_table.specs.Table.{Table, IsPush};
@@ -83,37 +83,81 @@ pub trait WasiCliNamedView: Send {
 
     ghost with_table: { Self → Table Entry → Self };
 
+    /// Lends the named context with the guest's table.
     fn cli(&mut self, id: NamedId) -> WasiCliCtxView<'_>
         ensures ctx { result.ctx.now ≡ cli_of self.entry.now id }
         ensures table { result.table.now ≡ cli_table self.entry.now };
 
-    /// The context to be read alone.
+    /// The named context.
     fn command_line(&self, id: NamedId) -> &WasiCliCtx
         ensures { result.now ≡ cli_of self.now id };
 
+    /// Puts an entry into the guest's table, and changes nothing else.
+    fn push(&mut self, entry: Entry) -> Result<u32, TableError>
+        ensures pushed { IsPush (cli_table self.old) entry None result (cli_table self.new) }
+        ensures rest { self.new ≡ with_table self.old (cli_table self.new) };
+
+    /// The same for a terminal, where the stream is one.
+    fn push_terminal(&mut self, terminal: bool, entry: Entry) -> Result<Option<u32>, TableError>
+        ensures pushed { IsTerminalPush terminal (cli_table self.old) entry result (cli_table self.new) }
+        ensures rest { self.new ≡ with_table self.old (cli_table self.new) };
+
+    /// A new entry for the named context's standard input: its number.
     fn get_stdin(&mut self, id: NamedId) -> Result<u32, TableError>
         ensures pushed { IsPush (cli_table self.old) (entry.Input (in_p2 (cli_of self.old id).stdin)) None result (cli_table self.new) }
-        ensures rest { self.new ≡ with_table self.old (cli_table self.new) };
+        ensures rest { self.new ≡ with_table self.old (cli_table self.new) }
+    {
+        let stream = self.command_line(id).stdin.p2_stream();
+        self.push(Entry::Input(stream))
+    }
 
+    /// A new entry for the named context's standard output: its number.
     fn get_stdout(&mut self, id: NamedId) -> Result<u32, TableError>
         ensures pushed { IsPush (cli_table self.old) (entry.Output (out_p2 (cli_of self.old id).stdout)) None result (cli_table self.new) }
-        ensures rest { self.new ≡ with_table self.old (cli_table self.new) };
+        ensures rest { self.new ≡ with_table self.old (cli_table self.new) }
+    {
+        let stream = self.command_line(id).stdout.p2_stream();
+        self.push(Entry::Output(stream))
+    }
 
+    /// A new entry for the named context's standard error: its number.
     fn get_stderr(&mut self, id: NamedId) -> Result<u32, TableError>
         ensures pushed { IsPush (cli_table self.old) (entry.Output (out_p2 (cli_of self.old id).stderr)) None result (cli_table self.new) }
-        ensures rest { self.new ≡ with_table self.old (cli_table self.new) };
+        ensures rest { self.new ≡ with_table self.old (cli_table self.new) }
+    {
+        let stream = self.command_line(id).stderr.p2_stream();
+        self.push(Entry::Output(stream))
+    }
 
+    /// A new entry for the terminal that the named context's standard input is: its number. `None` exactly
+    /// where it is no terminal.
     fn get_terminal_stdin(&mut self, id: NamedId) -> Result<Option<u32>, TableError>
         ensures pushed { IsTerminalPush (in_terminal (cli_of self.old id).stdin) (cli_table self.old) entry.TerminalInput result (cli_table self.new) }
-        ensures rest { self.new ≡ with_table self.old (cli_table self.new) };
+        ensures rest { self.new ≡ with_table self.old (cli_table self.new) }
+    {
+        let terminal = self.command_line(id).stdin.is_terminal();
+        self.push_terminal(terminal, Entry::TerminalInput)
+    }
 
+    /// A new entry for the terminal that the named context's standard output is: its number. `None` exactly
+    /// where it is no terminal.
     fn get_terminal_stdout(&mut self, id: NamedId) -> Result<Option<u32>, TableError>
         ensures pushed { IsTerminalPush (out_terminal (cli_of self.old id).stdout) (cli_table self.old) entry.TerminalOutput result (cli_table self.new) }
-        ensures rest { self.new ≡ with_table self.old (cli_table self.new) };
+        ensures rest { self.new ≡ with_table self.old (cli_table self.new) }
+    {
+        let terminal = self.command_line(id).stdout.is_terminal();
+        self.push_terminal(terminal, Entry::TerminalOutput)
+    }
 
+    /// A new entry for the terminal that the named context's standard error is: its number. `None` exactly
+    /// where it is no terminal.
     fn get_terminal_stderr(&mut self, id: NamedId) -> Result<Option<u32>, TableError>
         ensures pushed { IsTerminalPush (out_terminal (cli_of self.old id).stderr) (cli_table self.old) entry.TerminalOutput result (cli_table self.new) }
-        ensures rest { self.new ≡ with_table self.old (cli_table self.new) };
+        ensures rest { self.new ≡ with_table self.old (cli_table self.new) }
+    {
+        let terminal = self.command_line(id).stderr.is_terminal();
+        self.push_terminal(terminal, Entry::TerminalOutput)
+    }
 }
 
 /// The calls of a guest on one of its contexts, by the context's name.
