@@ -25,15 +25,16 @@ impl WasiCliNamedView for Guest {
     ghost with_table = { λ guest table. record guest { table = table } };
 
     fn cli(&mut self, id: NamedId) -> WasiCliCtxView<'_> {
-        match self.named.get_mut(id.0) {
-            Some(ctx) => LentView {
-                ctx,
+        if id.0 < self.named.len() {
+            LentView {
+                ctx: &mut self.named[id.0],
                 table: &mut self.table,
-            },
-            None => LentView {
+            }
+        } else {
+            LentView {
                 ctx: &mut self.main,
                 table: &mut self.table,
-            },
+            }
         }
     }
 
