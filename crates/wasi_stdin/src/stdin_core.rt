@@ -50,11 +50,18 @@ impl StdinCore {
         })
     }
 
+    /// How many bytes are held.
+    pub fn held_count(&self) -> usize
+        ensures { result ≡ length self.now.held }
+    {
+        self.ring.len()
+    }
+
     /// How many bytes a read of this size would hand out now.
     pub fn would_give(&self, size: u64) -> usize
         ensures { result ≡ min size (length self.now.held) }
     {
-        let held = self.ring.len();
+        let held = self.held_count();
         if size < held as u64 {
             size as usize
         } else {
@@ -265,22 +272,28 @@ impl StdinCore {
         }
     }
 
+    /// The size that a capture would take now: what is asked for, at most 65536 and one at least,
+    /// where none is captured.
+    pub fn wants(&self) -> Option<usize>
+        ensures { result ≡ capture_of self.now }
+    {
+        match self.mode {
+            Mode::Asked(asked) => match self.captured {
+                None => Some(asked.min(MOST_BYTES as u64).max(1) as usize),
+                Some(_) => None,
+            },
+            _ => None,
+        }
+    }
+
     /// Captures the size that is asked for, at most 65536 and one at least, for one delivery.
     pub fn capture(&mut self) -> Option<usize>
         ensures size { result ≡ capture_of self.old }
         ensures after { self.new ≡ after_capture self.old }
     {
-        match self.mode {
-            Mode::Asked(asked) => match self.captured {
-                None => {
-                    let size = asked.min(MOST_BYTES as u64).max(1) as usize;
-                    self.captured = Some(size);
-                    Some(size)
-                }
-                Some(_) => None,
-            },
-            _ => None,
-        }
+        let size = self.wants()?;
+        self.captured = Some(size);
+        Some(size)
     }
 
     /// Delivers what a read of the captured size gave.

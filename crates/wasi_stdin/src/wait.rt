@@ -26,7 +26,8 @@ impl Wait {
         Wait { since: None }
     }
 
-    pub(crate) fn since(&self) -> Option<u64>
+    /// The count of deliveries that it waits to see passed, if it waits.
+    pub fn since(&self) -> Option<u64>
         ensures { result ≡ self.now }
     {
         self.since

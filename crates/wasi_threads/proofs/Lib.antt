@@ -1,0 +1,5 @@
+pub mod HistoryFacts
+pub mod CallFacts
+pub mod RoundFacts
+pub mod BytesFacts
+pub mod PartFacts

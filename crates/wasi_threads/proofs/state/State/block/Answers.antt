@@ -1,0 +1,17 @@
+use Rattle.std.proofs.Common.{◌≡◌, ◌<◌, length, arith, ◌∙◌, ap}
+use Rattle.wasi_threads.specs.declared.entry.Event.TheVariants as event
+use Rattle.wasi_threads.specs.History.{Standing, with_shared}
+use Rattle.wasi_stdin.specs.Shared.{Shared, after_block}
+use Rattle.wasi_threads.proofs.HistoryFacts.{kept_made, block_captured}
+use Rattle.wasi_threads.proofs.state.State.block.Goals as goal
+
+pub invariant_of-self-2 : goal.invariant_of-self-2
+invariant_of-self-2 g c =
+    let s : Standing = record { shared = c.self.inside.core; stops = c.self.inside.stops.items; saw = c.self.inside.saw } in
+    let joined : c.args.pass.now.number < length c.self.inside.stops.items = rw (← c.self.view_is) at c.requires.joined in
+    let after : c.block-answer.new.self ≡ after_block c.self.inside.core c.args.wait.now = c.block-answer.ensures.after in
+    let same : c.block-answer.new.self.captured ≡ c.self.inside.core.captured = ap (λ (s : Shared). s.captured) after ∙ block_captured c.self.inside.core c.args.wait.now in
+    kept_made s _ _ _ _ _ _ _ _ _ _ _ _ _ _ _ _ _ _ _ _ c.args.pass.now.number (event.Block c.args.wait.now)
+    c.self.invariant c.put.ensures.history (cc) (omega arith) (cc) (cc) joined
+    (cc) (cc) (cc) (ap (with_shared s) after)
+    c.put.ensures.counted c.self.invariant.parts c.self.invariant.any (rw same c.self.invariant.owes) (omega (arith, c.in_ok-reserve-2.ensures.ok, c.put.ensures.capacity))

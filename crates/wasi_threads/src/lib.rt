@@ -1,0 +1,23 @@
+//! Running threads on one input: the shared input behind a lock, with a history of all calls.
+#![tactic(auto)]
+
+mod collect;
+mod entry;
+mod parts;
+mod pass;
+mod piece;
+mod reply;
+mod round;
+mod shared;
+mod state;
+mod worker;
+
+pub use collect::{CollectError, Collected, settle};
+pub use entry::{Entry, Event, Kept};
+pub use pass::Pass;
+pub use piece::Piece;
+pub use reply::{PolledReply, ReadReply};
+pub use round::Round;
+pub use shared::SharedStdin;
+pub use state::State;
+pub use worker::{Worker, WorkerEnd};
