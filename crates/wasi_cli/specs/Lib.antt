@@ -5,3 +5,4 @@ pub mod Operations
 pub mod Polls
 pub mod StdoutPolls
 pub mod Promises
+pub mod laws
