@@ -7,3 +7,4 @@ pub mod StdoutPolls
 pub mod Promises
 pub mod Texts
 pub mod Environment
+pub mod laws

@@ -1,9 +1,8 @@
 use crate::declared::Declared;
-use crate::fields::{Field, guest_number};
+use crate::fields::Field;
 use crate::forms::{call_fields, line_fields, turn_fields};
 use crate::reason::Reason;
 use crate::words::{Flaw, Words};
-use wasi_script::Standard;
 
 /// What is wrong with a line after those before it: bytes and blanks first, and then the words from
 /// the front.
@@ -12,36 +11,19 @@ pub fn check_line(line: &[u8], declared: &Declared) -> Result<(), Flaw> {
     let mut words = Words::new(line);
     let word = words.expect_word()?;
     let fields = line_fields(word.text).ok_or(word.flaw(Reason::NoSuchLine))?;
-    let first = words.first();
     check_fields(fields, &mut words, declared)?;
-    match (word.text, first) {
-        (b"call", Some(caller)) => check_call(caller.text, &mut words, declared)?,
-        (b"turn", _) => check_turn(&mut words, declared)?,
+    match word.text {
+        b"call" => check_call(&mut words, declared)?,
+        b"turn" => check_turn(&mut words, declared)?,
         _ => {}
     }
     words.expect_end()
 }
 
-fn check_call(caller: &[u8], words: &mut Words, declared: &Declared) -> Result<(), Flaw> {
+fn check_call(words: &mut Words, declared: &Declared) -> Result<(), Flaw> {
     let name = words.expect_word()?;
     let fields = call_fields(name.text).ok_or(name.flaw(Reason::NoSuchCall))?;
-    if polls_task(caller, name.text, declared) {
-        return Err(name.flaw(Reason::PolledTask));
-    }
     check_fields(fields, words, declared)
-}
-
-// whether a call opens a stream that has a task, for polls
-fn polls_task(caller: &[u8], name: &[u8], declared: &Declared) -> bool {
-    let Ok(guest) = guest_number(caller) else {
-        return false;
-    };
-    match name {
-        b"async-stdin" => declared.is_with_task(guest, Standard::Input),
-        b"async-stdout" => declared.is_with_task(guest, Standard::Output),
-        b"async-stderr" => declared.is_with_task(guest, Standard::Error),
-        _ => false,
-    }
 }
 
 fn check_turn(words: &mut Words, declared: &Declared) -> Result<(), Flaw> {

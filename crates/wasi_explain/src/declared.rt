@@ -3,7 +3,6 @@ use crate::forms::line_fields;
 use crate::words::Words;
 use std::alloc::Global;
 use wasi_base::OutOfMemory;
-use wasi_script::Standard;
 
 /// What a stream is to its guests.
 #[derive(Clone, Copy, Debug, PartialEq, Eq, Drop)]
@@ -21,14 +20,11 @@ struct Row<'a> {
     has_task: bool,
 }
 
-/// What lines say of a guest, and which of its standard streams have a task.
+/// What lines say of a guest.
 #[derive(Clone, Copy, Default, Drop)]
 struct Guest {
     is_declared: bool,
     has_called: bool,
-    input_has_task: bool,
-    output_has_task: bool,
-    error_has_task: bool,
 }
 
 /// What lines declared, and which guests called in them.
@@ -47,7 +43,6 @@ impl<'a> Declared<'a> {
         };
         for line in lines.split(|byte| *byte == b'\n') {
             declared.add_line(line)?;
-            declared.give_stream(line);
         }
         Ok(declared)
     }
@@ -105,22 +100,6 @@ impl<'a> Declared<'a> {
         }
     }
 
-    // a line that gives a guest a standard stream, and with it the stream's task, if it has one
-    fn give_stream(&mut self, line: &[u8]) {
-        let mut words = Words::new(line);
-        if let (Some(word), Some(guest), Some(name)) = (words.next(), words.next(), words.next()) {
-            let has_task = self.has_task(name.text);
-            if let Some(guest) = self.guest_mut(guest.text) {
-                match word.text {
-                    b"guest" => guest.input_has_task = has_task,
-                    b"stdout" => guest.output_has_task = has_task,
-                    b"stderr" => guest.error_has_task = has_task,
-                    _ => {}
-                }
-            }
-        }
-    }
-
     fn guest_mut(&mut self, word: &[u8]) -> Option<&mut Guest> {
         let number = guest_number(word).ok()?;
         self.guests.get_mut(number as usize)
@@ -132,18 +111,6 @@ impl<'a> Declared<'a> {
 
     pub fn has_called(&self, number: u64) -> bool {
         number < 64 && self.guests[number as usize].has_called
-    }
-
-    /// Whether this standard stream of a guest has a task.
-    pub fn is_with_task(&self, number: u64, stream: Standard) -> bool {
-        match self.guests.get(number as usize) {
-            Some(guest) => match stream {
-                Standard::Input => guest.input_has_task,
-                Standard::Output => guest.output_has_task,
-                Standard::Error => guest.error_has_task,
-            },
-            None => false,
-        }
     }
 
     /// What the stream of a name is, if there is one.

@@ -63,8 +63,6 @@ pub enum Reason {
     UnknownOutput,
     #[error("stream without a task")]
     NoTask,
-    #[error("polls of a stream that has a task")]
-    PolledTask,
     #[error("guest declared twice")]
     GuestTwice,
     #[error("name declared twice")]

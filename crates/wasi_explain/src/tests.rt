@@ -288,8 +288,7 @@ fn streams_with_tasks(rt: HostRuntime) -> Result<(), Fail> {
         ("turn out A", 10, Reason::InputAsOutput),
         ("turn out O", 10, Reason::NoTask),
         ("turn out B 0", 12, Reason::ExtraWord),
-        ("call 0 async-stdin", 8, Reason::PolledTask),
-        ("call 0 async-stderr 0", 8, Reason::PolledTask),
+        ("call 0 async-stderr 0", 21, Reason::ExtraWord),
         ("call 0 async-stdout 0", 21, Reason::ExtraWord),
         ("call 1 async-stdin 0", 20, Reason::ExtraWord),
     ];

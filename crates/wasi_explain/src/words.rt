@@ -44,11 +44,6 @@ impl<'a> Words<'a> {
         })
     }
 
-    /// The next word, which stays.
-    pub fn first(&self) -> Option<Word<'a>> {
-        Words { rest: self.rest }.next()
-    }
-
     /// The next word, of which there must be one.
     pub fn expect_word(&mut self) -> Result<Word<'a>, Flaw> {
         self.next().ok_or(Flaw {

@@ -1,6 +1,6 @@
 -- What each call asks to be done, and what it leaves of what its entry is on: a rule of its own for each kind of entry.
 -- A rule sees no more than what its entry is on, and none gives back its guest's settings.
-use Rattle.std.specs.Prelude.{ℕ, Some, None, Result, Ok, Err}
+use Rattle.std.specs.Prelude.{ℕ, false, List, Some, None, Result, Ok, Err}
 use Rattle.wasi_base.specs.declared.polled.Polled.{Polled as Poll}
 use Rattle.wasi_base.specs.declared.polled.Polled.TheVariants as polled
 use Rattle.wasi_base.specs.declared.stream_error.StreamError.{StreamError}
@@ -29,14 +29,20 @@ use Rattle.wasi_host.specs.declared.entry.SharedEntry.TheVariants.{Reader, Polle
 use Rattle.wasi_host.specs.declared.entry.StreamEntry.{StreamEntry}
 use Rattle.wasi_host.specs.declared.entry.StreamEntry.TheVariants as on
 use Rattle.wasi_host.specs.declared.stream.InStream.{InStream}
+use Rattle.wasi_host.specs.declared.stream.InStream.TheVariants as in_stream
 use Rattle.wasi_host.specs.declared.stream.OutStream.{OutStream}
+use Rattle.wasi_host.specs.declared.stream.OutStream.TheVariants as out_stream
 use Rattle.wasi_host.specs.declared.deed.Deed.{Deed}
 use Rattle.wasi_host.specs.declared.deed.Deed.TheVariants.{Tell, Make, Change}
 use Rattle.wasi_host.specs.Deeds.{Own}
 pub use Rattle.wasi_host.specs.declared.settings.Settings.{Settings}
-pub use Rattle.wasi_host.specs.declared.owner.Owner.{Owner}
-use Rattle.wasi_host.specs.InStreams.{input_read, input_skip, after_input_read, input_poll_read, after_input_poll_read, input_is_ready}
-use Rattle.wasi_host.specs.OutStreams.{output_check_write, after_output_check_write, output_write, after_output_write, output_flush, after_output_flush, output_poll_write, after_output_poll_write, output_poll_flush, after_output_poll_flush, output_is_ready}
+pub use Rattle.wasi_cli.specs.declared.owner.Owner.{Owner}
+use Rattle.wasi_cli.specs.declared.handle.StdioHandle.TheVariants.{Ready}
+use Rattle.wasi_cli.specs.declared.stdout_handle.StdoutHandle.{StdoutHandle}
+use Rattle.wasi_cli.specs.StdoutPolls.{write_poll, flush_poll}
+use Rattle.wasi_host.specs.Turns.{shared_poll_read, poll_left}
+use Rattle.wasi_host.specs.InStreams.{input_read, input_skip, after_input_read, input_poll_read, after_input_poll_read, input_is_ready, input_block, after_input_block}
+use Rattle.wasi_host.specs.OutStreams.{output_check_write, after_output_check_write, output_write, after_output_write, output_flush, after_output_flush, output_poll_write, after_output_poll_write, output_poll_flush, after_output_poll_flush, output_is_ready, output_block, after_output_block}
 
 -- what is to be done, and what is left of what the entry is on
 pub record Doing (S : Type 0) : Type 0 where
@@ -92,7 +98,7 @@ shared_entry access.Polled = Polled None
 
 abbrev pub stream_entry : Access → StreamEntry
 stream_entry access.Plain = on.Plain
-stream_entry access.Polled = on.Polled
+stream_entry access.Polled = on.Polled (record { handle = Ready; flushing = false })
 
 abbrev pub opened : Input → Standard → Access → Entry
 opened input.Shared standard.Input how = entry.Shared (shared_entry how)
@@ -108,26 +114,38 @@ asked call.Ready at (Pollable wait) s = doing (Tell (told.Truth (is_ready s))) (
 asked call.Block at (Pollable wait) s = doing (Change at.number (entry.Shared (Pollable (wait_after_block s wait))) (told.Truth (block_of s wait))) (after_block s wait)
 asked other at it s = doing mistaken s
 
--- ---- calls on an input
+-- ---- calls on an input; a poll of one that guests share by turns keeps its handle in its entry
+abbrev pub polled_read : Owner → StdoutHandle → InStream → ℕ → Doing InStream
+polled_read at handle (in_stream.Async it) room = let poll = shared_poll_read handle.handle at it room in doing (Change at.number (entry.Stream standard.Input (on.Polled (record handle { handle = poll.handle }))) (poll_told told.Bytes poll.answer)) (in_stream.Async (poll_left poll))
+polled_read at handle other room = doing (Tell (poll_told told.Bytes (input_poll_read other room))) (after_input_poll_read other room)
+
 abbrev pub called : EntryCall → Owner → StreamEntry → InStream → Doing InStream
 called (call.Read size) at on.Plain s = doing (Tell (result_told told.Bytes (input_read s size))) (after_input_read s size)
 called (call.Skip size) at on.Plain s = doing (Tell (result_told told.Count (input_skip s size))) (after_input_read s size)
 called call.Subscribe at on.Plain s = doing (Make (entry.Stream standard.Input on.Pollable) (Some at.number)) s
-called (call.PollRead room) at on.Polled s = doing (Tell (poll_told told.Bytes (input_poll_read s room))) (after_input_poll_read s room)
+called (call.PollRead room) at (on.Polled handle) s = polled_read at handle s room
 called call.Ready at on.Pollable s = doing (Tell (told.Truth (input_is_ready s))) s
-called call.Block at on.Pollable s = doing (Tell (told.Truth (input_is_ready s))) s
+called call.Block at on.Pollable s = doing (Tell (told.Truth (input_block s at))) (after_input_block s at)
 called other at it s = doing mistaken s
 
--- ---- calls on an output
+-- ---- calls on an output, whose polls are like those of an input
+abbrev pub polled_write : Standard → Owner → StdoutHandle → OutStream → List ℕ → Doing OutStream
+polled_write to at handle (out_stream.Buffered it) bytes = let poll = write_poll handle at it.turn it.stream bytes in doing (Change at.number (entry.Stream to (on.Polled poll.handle)) (poll_told told.Count poll.answer)) (out_stream.Buffered (poll_left poll))
+polled_write to at handle other bytes = doing (Tell (poll_told told.Count (output_poll_write other bytes))) (after_output_poll_write other bytes)
+
+abbrev pub polled_flush : Standard → Owner → StdoutHandle → OutStream → Doing OutStream
+polled_flush to at handle (out_stream.Buffered it) = let poll = flush_poll handle at it.turn it.stream in doing (Change at.number (entry.Stream to (on.Polled poll.handle)) (poll_told is_done poll.answer)) (out_stream.Buffered (poll_left poll))
+polled_flush to at handle other = doing (Tell (poll_told is_done (output_poll_flush other))) (after_output_poll_flush other)
+
 abbrev pub sent : EntryCall → Standard → Owner → StreamEntry → OutStream → Doing OutStream
 sent call.CheckWrite to at on.Plain s = doing (Tell (result_told told.Count (output_check_write s))) (after_output_check_write s)
 sent (call.Write bytes) to at on.Plain s = doing (Tell (result_told is_done (output_write s bytes))) (after_output_write s bytes)
 sent call.Flush to at on.Plain s = doing (Tell (result_told is_done (output_flush s))) (after_output_flush s)
 sent call.Subscribe to at on.Plain s = doing (Make (entry.Stream to on.Pollable) (Some at.number)) s
-sent (call.PollWrite bytes) to at on.Polled s = doing (Tell (poll_told told.Count (output_poll_write s bytes))) (after_output_poll_write s bytes)
-sent call.PollFlush to at on.Polled s = doing (Tell (poll_told is_done (output_poll_flush s))) (after_output_poll_flush s)
+sent (call.PollWrite bytes) to at (on.Polled handle) s = polled_write to at handle s bytes
+sent call.PollFlush to at (on.Polled handle) s = polled_flush to at handle s
 sent call.Ready to at on.Pollable s = doing (Tell (told.Truth (output_is_ready s))) s
-sent call.Block to at on.Pollable s = doing (Tell (told.Truth (output_is_ready s))) s
+sent call.Block to at on.Pollable s = doing (Tell (told.Truth (output_block s at))) (after_output_block s at)
 sent other to at it s = doing mistaken s
 
 -- ---- calls on what a guest owns alone

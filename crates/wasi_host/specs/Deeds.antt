@@ -7,6 +7,8 @@ use Rattle.wasi_reply.specs.declared.reply.Told.{Told}
 use Rattle.wasi_reply.specs.declared.reply.Told.TheVariants as told
 use Rattle.wasi_reply.specs.declared.reply.Reply.{Reply}
 use Rattle.wasi_reply.specs.declared.reply.Reply.TheVariants as reply
+use Rattle.wasi_script.specs.declared.lines.Standard.{Standard}
+use Rattle.wasi_script.specs.declared.lines.Standard.TheVariants as standard
 use Rattle.wasi_host.specs.declared.entry.Entry.{Entry}
 use Rattle.wasi_host.specs.declared.entry.Entry.TheVariants as entry
 use Rattle.wasi_host.specs.declared.entry.SharedEntry.TheVariants as shared
@@ -47,9 +49,16 @@ abbrev pub may_make : Entry → Option ℕ → Own → Bool
 may_make it None own = stands_alone it
 may_make it (Some parent) own = goes_under it (entry_at own parent)
 
+abbrev pub same_standard : Standard → Standard → Bool
+same_standard standard.Input standard.Input = true
+same_standard standard.Output standard.Output = true
+same_standard standard.Error standard.Error = true
+same_standard one other = false
+
 abbrev pub may_change : Option Entry → Entry → Bool
 may_change (Some (entry.Shared (shared.Polled old))) (entry.Shared (shared.Polled new)) = true
 may_change (Some (entry.Shared (shared.Pollable old))) (entry.Shared (shared.Pollable new)) = true
+may_change (Some (entry.Stream to (stream.Polled old))) (entry.Stream on (stream.Polled new)) = same_standard to on
 may_change old new = false
 
 -- ---- what is done

@@ -11,9 +11,9 @@ use Rattle.wasi_host.specs.declared.entry.Entry.TheVariants as entry
 abbrev pub stream_kind : Standard → StreamEntry → ℕ
 stream_kind to stream.Pollable = 2
 stream_kind standard.Input stream.Plain = 0
-stream_kind standard.Input stream.Polled = 1
+stream_kind standard.Input (stream.Polled handle) = 1
 stream_kind to stream.Plain = 3
-stream_kind to stream.Polled = 4
+stream_kind to (stream.Polled handle) = 4
 
 abbrev pub kind_of : Entry → ℕ
 kind_of (entry.Shared shared.Reader) = 0

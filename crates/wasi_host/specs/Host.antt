@@ -37,7 +37,7 @@ use Rattle.wasi_script.specs.declared.lines.StreamTask.{StreamTask}
 use Rattle.wasi_script.specs.declared.lines.StreamTask.TheVariants as task
 use Rattle.wasi_script.specs.declared.lines.Line.{Line}
 use Rattle.wasi_script.specs.declared.lines.Line.TheVariants as line
-use Rattle.wasi_script.specs.Grammar.{Names, input_has_task, output_has_task, may_stand}
+use Rattle.wasi_script.specs.Grammar.{Names, may_stand}
 use Rattle.wasi_reply.specs.declared.reply.Told.TheVariants as told
 use Rattle.wasi_reply.specs.declared.reply.Worked.{Worked}
 use Rattle.wasi_reply.specs.declared.reply.Worked.TheVariants as worked
@@ -54,6 +54,11 @@ use Rattle.wasi_host.specs.declared.stream.OutStream.{OutStream}
 use Rattle.wasi_host.specs.declared.stream.OutStream.TheVariants as out_stream
 use Rattle.wasi_host.specs.declared.deed.Deed.{Deed}
 use Rattle.wasi_host.specs.declared.deed.Deed.TheVariants.{Make}
+use Rattle.wasi_host.specs.declared.leaver.Leaver.{Leaver}
+use Rattle.wasi_host.specs.declared.leaver.Leaver.TheVariants as leaver
+use Rattle.wasi_host.specs.Turns.{untaken}
+use Rattle.wasi_host.specs.InStreams.{input_without}
+use Rattle.wasi_host.specs.OutStreams.{output_without}
 use Rattle.wasi_host.specs.Deeds.{Own, Done, trapped, entry_at, act, dropped, apart}
 use Rattle.wasi_host.specs.Tasks.{Turned, input_turned, output_turned}
 use Rattle.wasi_host.specs.Calls.{Settings, Owner, Doing, opened, asked, called, sent, owned}
@@ -107,6 +112,23 @@ output_at other streams = out_stream.Sink
 abbrev pub put_output : Output → OutStream → Streams → Streams
 put_output (output.Named name) it streams = record streams { outputs = put_back name it streams.outputs }
 put_output other it streams = streams
+
+-- ---- who leaves gives up its turns: of an entry that is dropped on the stream that it is on, of a guest that ends on each
+-- of its streams
+abbrev pub leave_input : Leaver → Input → Streams → Streams
+leave_input who from streams = put_input from (input_without who (input_at from streams)) streams
+
+abbrev pub leave_output : Leaver → Output → Streams → Streams
+leave_output who to streams = put_output to (output_without who (output_at to streams)) streams
+
+abbrev pub leave_entry : Leaver → Option Entry → Settings → Streams → Streams
+leave_entry who (Some (entry.Stream standard.Input it)) settings streams = leave_input who settings.input streams
+leave_entry who (Some (entry.Stream standard.Output it)) settings streams = leave_output who settings.stdout streams
+leave_entry who (Some (entry.Stream standard.Error it)) settings streams = leave_output who settings.stderr streams
+leave_entry who other settings streams = streams
+
+abbrev pub leave_all : Leaver → Settings → Streams → Streams
+leave_all who settings streams = leave_output who settings.stderr (leave_output who settings.stdout (leave_input who settings.input streams))
 
 -- ---- the host: the shared input, the guests by their numbers, and the streams
 pub record Host : Type 0 where
@@ -174,13 +196,20 @@ answer_at rules it at (Some (entry.Stream standard.Error on)) guest shared strea
 abbrev pub answer_to : Rules → Call → ℕ → Guest → Shared → Streams → Answered
 answer_to rules (call.Open it how) g guest shared streams = settled guest (act (Make (opened guest.settings.input it how) None) guest.own) shared streams
 answer_to rules (call.On number it) g guest shared streams = answer_at rules it (record { guest = g; number = number }) (entry_at guest.own number) guest shared streams
-answer_to rules (call.Drop number) g guest shared streams = settled guest (dropped number guest.own) shared streams
+answer_to rules (call.Drop number) g guest shared streams = settled guest (dropped number guest.own) shared (leave_entry (leaver.Entry (record { guest = g; number = number })) (entry_at guest.own number) guest.settings streams)
 answer_to rules (call.Own it) g guest shared streams = settled guest (act (apart (rules.owned it guest.settings guest.own)) guest.own) shared streams
+
+-- a guest that its reply ends passes its turns on
+abbrev pub left_streams : Reply → ℕ → Settings → Streams → Streams
+left_streams answer g settings streams = cond (ends answer) (leave_all (leaver.Guest g) settings streams) streams
+
+abbrev pub passed_on : ℕ → Settings → Answered → Answered
+passed_on g settings done = record done { streams = left_streams done.reply g settings done.streams }
 
 -- a guest that ended is told so, and nothing else happens
 abbrev pub answer_by : Bool → Rules → Call → ℕ → Guest → Shared → Streams → Answered
 answer_by true rules it g guest shared streams = record { reply = reply.Ended; guest = record guest { was_called = true }; shared = shared; streams = streams }
-answer_by false rules it g guest shared streams = answer_to rules it g guest shared streams
+answer_by false rules it g guest shared streams = passed_on g guest.settings (answer_to rules it g guest shared streams)
 
 -- a guest, taken out of the host and put back
 abbrev pub guest_of : Host → ℕ → Option Guest
@@ -207,13 +236,13 @@ new_outlet room plan = record { taken = []; limits = record { room = room; plan 
 abbrev pub new_input : InputDeclaration → InStream
 new_input (declared_in.Pipe bytes) = in_stream.Pipe bytes
 new_input (declared_in.File bytes plan) = in_stream.File (record { left = bytes; plan = plan })
-new_input (declared_in.Async bytes plan) = in_stream.Async (new_reader (record { left = bytes; plan = plan }))
+new_input (declared_in.Async bytes plan) = in_stream.Async (untaken (new_reader (record { left = bytes; plan = plan })))
 
 abbrev pub new_output : OutputDeclaration → OutStream
 new_output (declared_out.Pipe capacity) = out_stream.Pipe (record { contents = []; room = capacity })
 new_output (declared_out.File room plan) = out_stream.File (new_outlet room plan)
 new_output (declared_out.Stdio room plan) = out_stream.Stdio (new_outlet room plan)
-new_output (declared_out.Buffered room plan budget) = out_stream.Buffered (new_writer budget (new_outlet room plan))
+new_output (declared_out.Buffered room plan budget) = out_stream.Buffered (untaken (new_writer budget (new_outlet room plan)))
 
 abbrev pub with_input : List ℕ → InStream → Host → Host
 with_input name it host = record host { streams = record host.streams { inputs = host.streams.inputs ++ (name, it) ∷ [] } }
@@ -338,11 +367,11 @@ names_in named = map (λ row. row.0) named
 
 -- which streams have a task
 abbrev pub is_reader : Option InStream → Bool
-is_reader (Some (in_stream.Async reader)) = true
+is_reader (Some (in_stream.Async it)) = true
 is_reader other = false
 
 abbrev pub is_writer : Option OutStream → Bool
-is_writer (Some (out_stream.Buffered writer)) = true
+is_writer (Some (out_stream.Buffered it)) = true
 is_writer other = false
 
 abbrev pub reads_ahead_in : Streams → List ℕ → Bool
@@ -351,17 +380,10 @@ reads_ahead_in streams name = is_reader (lookup (bytes_eq name) streams.inputs)
 abbrev pub writes_behind_in : Streams → List ℕ → Bool
 writes_behind_in streams name = is_writer (lookup (bytes_eq name) streams.outputs)
 
-abbrev pub task_of : Streams → Standard → Option Guest → Bool
-task_of streams stream None = false
-task_of streams standard.Input (Some guest) = input_has_task (reads_ahead_in streams) guest.settings.input
-task_of streams standard.Output (Some guest) = output_has_task (writes_behind_in streams) guest.settings.stdout
-task_of streams standard.Error (Some guest) = output_has_task (writes_behind_in streams) guest.settings.stderr
-
 abbrev pub names_of : Host → Names
 names_of host = record {
   is_guest = λ g. is_some (guest_of host g);
   was_called = λ g. was_called_in (guest_of host g);
-  has_task = λ stream g. task_of host.streams stream (guest_of host g);
   inputs = names_in host.streams.inputs;
   outputs = names_in host.streams.outputs;
   reads_ahead = reads_ahead_in host.streams;

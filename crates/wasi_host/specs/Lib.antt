@@ -1,5 +1,6 @@
 pub mod Entry
 pub mod Deeds
+pub mod Turns
 pub mod InStreams
 pub mod OutStreams
 pub mod Sources

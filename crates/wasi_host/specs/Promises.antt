@@ -1,5 +1,5 @@
 -- The laws on sessions, each the contract of a function of its own.
-use Rattle.std.specs.Prelude.{◌≡◌, ℕ, Bool, true, false, cond, is_some, ◌⊎◌, List, [], ◌∷◌, ◌++◌, take, Option, Some, None}
+use Rattle.std.specs.Prelude.{◌≡◌, ℕ, Bool, true, false, cond, ◌&&◌, ◌||◌, is_some, ◌⊎◌, List, [], ◌∷◌, ◌++◌, take, Option, Some, None}
 use Rattle.std.specs.List.{AllByRecursion}
 use Rattle.std.specs.Map.{lookup}
 use Rattle.std.specs.Option.{option_map, option_and_then}
@@ -18,7 +18,7 @@ use Rattle.wasi_reply.specs.declared.reply.Told.{Told}
 use Rattle.wasi_reply.specs.declared.reply.Told.TheVariants as told
 use Rattle.wasi_reply.specs.declared.reply.Reply.{Reply}
 use Rattle.wasi_reply.specs.declared.reply.Reply.TheVariants as reply
-use Rattle.wasi_reply.specs.Reply.{IsReply}
+use Rattle.wasi_reply.specs.Reply.{IsReply, ends}
 use Rattle.wasi_host.specs.declared.entry.Entry.{Entry}
 use Rattle.wasi_host.specs.declared.entry.Entry.TheVariants as entry
 use Rattle.wasi_host.specs.declared.entry.StreamEntry.{StreamEntry}
@@ -30,7 +30,7 @@ use Rattle.wasi_host.specs.declared.stream.OutStream.TheVariants as out_stream
 use Rattle.wasi_host.specs.OutStreams.{taken_of}
 use Rattle.wasi_host.specs.Deeds.{Own, entry_at, act, apart}
 use Rattle.wasi_host.specs.Calls.{Settings, Owner, sent}
-use Rattle.wasi_host.specs.Host.{Guest, Host, Rules, host_end, new_host, step_reply, step_host, step_told, guest_of, called_in, Named, taken_out, put_back}
+use Rattle.wasi_host.specs.Host.{Guest, Host, Rules, host_end, new_host, step_reply, step_host, step_told, guest_of, answer, called_in, Named, taken_out, put_back}
 use Rattle.wasi_host.specs.View.{input_names, output_names, view, IsApart, replies_seen, outputs_seen, GuestsAreAlone}
 use Rattle.wasi_host.specs.Transcript.{ShowsRun, transcript, told_after_run, outputs_of}
 
@@ -43,9 +43,11 @@ abbrev pub TranscriptsFixRuns : Type 0
 TranscriptsFixRuns = (steps : List Line) (text : List ℕ) (before after before' after' : Told') (one : ShowsRun steps before after text) (two : ShowsRun steps before' after' text) → AllByRecursion IsReply one.answers → AllByRecursion IsReply two.answers → one.answers ≡ two.answers
 
 -- ---- what a call reaches
--- whether a call is on an input of this name, on an output of it, and on the shared input, by the entry at its number
+-- whether a call is on an input of this name, on an output of it, and on the shared input, by the entry at its number; one
+-- that ends its guest is on all streams of it, where it passes its turns on
 abbrev pub entry_of : Call → Guest → Option Entry
 entry_of (call.On number it) guest = entry_at guest.own number
+entry_of (call.Drop number) guest = entry_at guest.own number
 entry_of other guest = None
 
 abbrev pub is_on_input : Option Entry → Settings → List ℕ → Bool
@@ -57,22 +59,28 @@ is_on_output (Some (entry.Stream standard.Output it)) settings name = output_nam
 is_on_output (Some (entry.Stream standard.Error it)) settings name = output_names settings.stderr name
 is_on_output other settings name = false
 
+abbrev pub reaches_input : Reply → Option Entry → Settings → List ℕ → Bool
+reaches_input answer on settings name = is_on_input on settings name || (ends answer && input_names settings.input name)
+
+abbrev pub reaches_output : Reply → Option Entry → Settings → List ℕ → Bool
+reaches_output answer on settings name = is_on_output on settings name || (ends answer && (output_names settings.stdout name || output_names settings.stderr name))
+
 abbrev pub is_on_shared : Option Entry → Bool
 is_on_shared (Some (entry.Shared it)) = true
 is_on_shared other = false
 
--- What a call of a guest leaves of all else: the other guests, its own settings, each stream but the one that it is on,
+-- What a call of a guest leaves of all else: the other guests, its own settings, each stream but those that it reaches,
 -- and the shared input, unless it is on that.
-pub record InReach (on : Option Entry) (host after : Host) (g : ℕ) (guest : Guest) : Type 0 where
+pub record InReach (answer : Reply) (on : Option Entry) (host after : Host) (g : ℕ) (guest : Guest) : Type 0 where
   pub others : (m : ℕ) → (m ≡ g → ⊥) → guest_of after m ≡ guest_of host m
   pub settings : option_map (λ (guest : Guest). guest.settings) (guest_of after g) ≡ Some guest.settings
-  pub inputs : (name : List ℕ) → is_on_input on guest.settings name ≡ false → lookup (bytes_eq name) after.streams.inputs ≡ lookup (bytes_eq name) host.streams.inputs
-  pub outputs : (name : List ℕ) → is_on_output on guest.settings name ≡ false → lookup (bytes_eq name) after.streams.outputs ≡ lookup (bytes_eq name) host.streams.outputs
+  pub inputs : (name : List ℕ) → reaches_input answer on guest.settings name ≡ false → lookup (bytes_eq name) after.streams.inputs ≡ lookup (bytes_eq name) host.streams.inputs
+  pub outputs : (name : List ℕ) → reaches_output answer on guest.settings name ≡ false → lookup (bytes_eq name) after.streams.outputs ≡ lookup (bytes_eq name) host.streams.outputs
   pub shared : is_on_shared on ≡ false → after.shared ≡ host.shared
 
 -- whatever the rules of calls are
 abbrev pub CallsStayInReach : Type 0
-CallsStayInReach = (rules : Rules) (it : Call) (g : ℕ) (host : Host) (guest : Guest) → guest_of host g ≡ Some guest → InReach (entry_of it guest) host (called_in rules it g host) g guest
+CallsStayInReach = (rules : Rules) (it : Call) (g : ℕ) (host : Host) (guest : Guest) → guest_of host g ≡ Some guest → InReach (answer rules it g host).reply (entry_of it guest) host (called_in rules it g host) g guest
 
 -- A stream that is put back as it was taken out leaves all streams as they were, and what was put back is what is taken
 -- out next.
@@ -111,7 +119,7 @@ Took other bytes before after = (count : ℕ) × (after ≡ before ++ take count
 -- the reply to a call through an entry of this kind: only writes are told something that adds to the output
 abbrev pub TookBy : EntryCall → StreamEntry → Reply → List ℕ → List ℕ → Type 0
 TookBy (on.Write bytes) at.Plain answer before after = (it : Told) × (answer ≡ reply.Told it) × Took it bytes before after
-TookBy (on.PollWrite bytes) at.Polled answer before after = (it : Told) × (answer ≡ reply.Told it) × Took it bytes before after
+TookBy (on.PollWrite bytes) (at.Polled handle) answer before after = (it : Told) × (answer ≡ reply.Told it) × Took it bytes before after
 TookBy other entry answer before after = after ≡ before
 
 -- the declared outputs whose writes go straight out: all but those that buffer

@@ -56,9 +56,9 @@ writer_turned w = turned_by (work_of w) w
 
 -- ---- of any stream; one that has no task has nothing to do
 abbrev pub input_turned : InStream → Turned InStream
-input_turned (in_stream.Async r) = turned (reader_turned r).told (in_stream.Async (reader_turned r).left)
+input_turned (in_stream.Async it) = turned (reader_turned it.stream).told (in_stream.Async (record it { stream = (reader_turned it.stream).left }))
 input_turned other = turned worked.Idle other
 
 abbrev pub output_turned : OutStream → Turned OutStream
-output_turned (out_stream.Buffered w) = turned (writer_turned w).told (out_stream.Buffered (writer_turned w).left)
+output_turned (out_stream.Buffered it) = turned (writer_turned it.stream).told (out_stream.Buffered (record it { stream = (writer_turned it.stream).left }))
 output_turned other = turned worked.Idle other

@@ -1,7 +1,8 @@
 ghost use Rattle.std.specs.Prelude.{◌≡◌, Some};
 ghost use Rattle.wasi_host.specs.Entry.{stream_kind};
-ghost use Rattle.wasi_host.specs.Deeds.{stands_alone, goes_under, may_change, is_shared};
+ghost use Rattle.wasi_host.specs.Deeds.{stands_alone, goes_under, may_change, same_standard, is_shared};
 
+use wasi_cli::StdoutHandle;
 use wasi_script::Standard;
 use wasi_stdin::Wait;
 use wasi_table::Kinded;
@@ -22,8 +23,9 @@ pub enum SharedEntry {
 pub enum StreamEntry {
     /// Reads or writes it by calls that answer at once.
     Plain,
-    /// Reads or writes it by polls.
-    Polled,
+    /// Reads or writes it by polls, with a handle that takes turns where guests share the stream;
+    /// that of an input never flushes.
+    Polled(StdoutHandle),
     /// Tells whether the plain entry that is its parent in the table is ready.
     Pollable,
 }
@@ -98,6 +100,16 @@ impl Entry {
             (Entry::Shared(SharedEntry::Pollable(_)), Entry::Shared(SharedEntry::Pollable(_))) => {
                 true
             }
+            (
+                Entry::Stream {
+                    stream: to,
+                    entry: StreamEntry::Polled(_),
+                },
+                Entry::Stream {
+                    stream: on,
+                    entry: StreamEntry::Polled(_),
+                },
+            ) => same_standard(*to, *on),
             _ => false,
         }
     }
@@ -125,14 +137,25 @@ impl Kinded for Entry {
     }
 }
 
+fn same_standard(one: Standard, other: Standard) -> bool
+    ensures { result ≡ same_standard one other }
+{
+    matches!(
+        (one, other),
+        (Standard::Input, Standard::Input)
+            | (Standard::Output, Standard::Output)
+            | (Standard::Error, Standard::Error)
+    )
+}
+
 fn stream_kind(stream: Standard, entry: StreamEntry) -> u32
     ensures { result ≡ stream_kind stream entry }
 {
     match (stream, entry) {
         (_, StreamEntry::Pollable) => Entry::POLLABLE,
         (Standard::Input, StreamEntry::Plain) => Entry::READER,
-        (Standard::Input, StreamEntry::Polled) => Entry::POLLED,
+        (Standard::Input, StreamEntry::Polled(_)) => Entry::POLLED,
         (_, StreamEntry::Plain) => Entry::WRITER,
-        (_, StreamEntry::Polled) => Entry::POLLED_WRITER,
+        (_, StreamEntry::Polled(_)) => Entry::POLLED_WRITER,
     }
 }

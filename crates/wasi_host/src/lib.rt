@@ -5,8 +5,8 @@
 mod deed;
 mod entry;
 mod laws;
+mod leaver;
 mod outlet;
-mod owner;
 mod settings;
 mod stream;
 mod tasks;
@@ -18,8 +18,8 @@ pub use laws::{
     guests_are_isolated, outputs_fill_in_order, outputs_keep_what_they_took, transcripts_fix_runs,
     what_is_put_back,
 };
+pub use leaver::Leaver;
 pub use outlet::{FileOutput, ProcessOutput};
-pub use owner::Owner;
 pub use settings::Settings;
 pub use stream::{FileInput, InStream, OutStream};
 pub use tasks::{AsyncInput, BufferedOutput};

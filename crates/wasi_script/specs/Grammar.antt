@@ -179,12 +179,11 @@ abbrev pub reading_of : List ℕ → Reading
 reading_of [] = Note
 reading_of (byte ∷ bytes) = cond (nat_eq byte 35) Note (step_or_invalid (line_of (words_of (byte ∷ bytes))))
 
--- What the lines so far declared: the guests, which of them were called, and which of their standard streams have a
--- task; the streams' names in order, and at which of them a task reads ahead or writes behind.
+-- What the lines so far declared: the guests, and which of them were called; the streams' names in order, and at which
+-- of them a task reads ahead or writes behind.
 pub record Names : Type 0 where
   pub is_guest : ℕ → Bool
   pub was_called : ℕ → Bool
-  pub has_task : Standard → ℕ → Bool
   pub inputs : List (List ℕ)
   pub outputs : List (List ℕ)
   pub reads_ahead : List ℕ → Bool
@@ -194,7 +193,6 @@ abbrev pub no_names : Names
 no_names = record {
   is_guest = λ number. false;
   was_called = λ number. false;
-  has_task = λ stream number. false;
   inputs = [];
   outputs = [];
   reads_ahead = λ name. false;
@@ -229,11 +227,6 @@ abbrev pub budget_stands : OutputDeclaration → Bool
 budget_stands (output_declaration.Buffered room plan budget) = nat_le 1 budget
 budget_stands other = true
 
--- no guest polls a stream that has a task
-abbrev pub call_stands : Names → ℕ → Call → Bool
-call_stands names guest (call.Open stream access.Polled) = not (names.has_task stream guest)
-call_stands names guest other = true
-
 -- a turn is one of a task that there is
 abbrev pub turn_stands : Names → StreamTask → Bool
 turn_stands names (task.Reader name) = names.reads_ahead name
@@ -249,7 +242,7 @@ may_stand names (line.Input name it) = may_declare names name
 may_stand names (line.Output name it) = may_declare names name && budget_stands it
 may_stand names (line.Guest guest it) = nat_lt guest 64 && (not (names.is_guest guest) && input_stands names it)
 may_stand names (line.Configure guest it) = may_set_up names guest && setting_stands names it
-may_stand names (line.Call guest it) = names.is_guest guest && call_stands names guest it
+may_stand names (line.Call guest it) = names.is_guest guest
 may_stand names (line.Worker it) = true
 may_stand names (line.Turn it) = turn_stands names it
 
@@ -262,14 +255,6 @@ abbrev pub is_written_behind : OutputDeclaration → Bool
 is_written_behind (output_declaration.Buffered room plan budget) = true
 is_written_behind other = false
 
-abbrev pub input_has_task : (List ℕ → Bool) → Input → Bool
-input_has_task reads_ahead (input.Named name) = reads_ahead name
-input_has_task reads_ahead other = false
-
-abbrev pub output_has_task : (List ℕ → Bool) → Output → Bool
-output_has_task writes_behind (output.Named name) = writes_behind name
-output_has_task writes_behind other = false
-
 -- this is known of a guest, and of a name
 abbrev pub known : ℕ → Bool → (ℕ → Bool) → ℕ → Bool
 known guest it test number = cond (nat_eq number guest) it (test number)
@@ -280,25 +265,11 @@ also guest = known guest true
 abbrev pub named : List ℕ → Bool → (List ℕ → Bool) → List ℕ → Bool
 named name it test other = cond (bytes_eq other name) it (test other)
 
-abbrev pub same_stream : Standard → Standard → Bool
-same_stream standard.Input standard.Input = true
-same_stream standard.Output standard.Output = true
-same_stream standard.Error standard.Error = true
-same_stream one other = false
-
-abbrev pub with_task : Standard → ℕ → Bool → (Standard → ℕ → Bool) → Standard → ℕ → Bool
-with_task stream guest it tasks other = cond (same_stream other stream) (known guest it (tasks other)) (tasks other)
-
-abbrev pub tasks_after : Names → ℕ → Setting → Standard → ℕ → Bool
-tasks_after names guest (setting.Stdout it) = with_task standard.Output guest (output_has_task names.writes_behind it) names.has_task
-tasks_after names guest (setting.Stderr it) = with_task standard.Error guest (output_has_task names.writes_behind it) names.has_task
-tasks_after names guest (setting.Capacity capacity) = names.has_task
-
 abbrev pub names_after : Names → Line → Names
 names_after names (line.Input name it) = record names { inputs = names.inputs ++ name ∷ []; reads_ahead = named name (is_read_ahead it) names.reads_ahead }
 names_after names (line.Output name it) = record names { outputs = names.outputs ++ name ∷ []; writes_behind = named name (is_written_behind it) names.writes_behind }
-names_after names (line.Guest guest it) = record names { is_guest = also guest names.is_guest; has_task = with_task standard.Input guest (input_has_task names.reads_ahead it) names.has_task }
-names_after names (line.Configure guest it) = record names { has_task = tasks_after names guest it }
+names_after names (line.Guest guest it) = record names { is_guest = also guest names.is_guest }
+names_after names (line.Configure guest it) = names
 names_after names (line.Call guest it) = record names { was_called = also guest names.was_called }
 names_after names (line.Worker it) = names
 names_after names (line.Turn it) = names

@@ -1,10 +1,9 @@
 ghost use Rattle.std.specs.Prelude.{◌≡◌, ◌+◌, ◌<◌, length, slice_index_or, true, false, OnOk, OnErr};
-ghost use Rattle.wasi_script.specs.Grammar.{Names, may_stand, may_declare, budget_stands, may_set_up, input_stands, output_stands, setting_stands, call_stands, turn_stands, is_read_ahead, is_written_behind, input_has_task, output_has_task, tasks_after, names_after, no_names, is_among};
+ghost use Rattle.wasi_script.specs.Grammar.{Names, may_stand, may_declare, budget_stands, may_set_up, input_stands, output_stands, setting_stands, turn_stands, is_read_ahead, is_written_behind, names_after, no_names, is_among};
 ghost use Rattle.wasi_script.specs.declared.lines.Line.TheVariants as line;
 
 use crate::lines::{
-    Access, Call, Input, InputDeclaration, Line, Output, OutputDeclaration, Setting, Standard,
-    StreamTask,
+    Input, InputDeclaration, Line, Output, OutputDeclaration, Setting, StreamTask,
 };
 use crate::name::Name;
 use crate::name_set::NameSet;
@@ -37,10 +36,6 @@ pub trait Declared {
     fn was_called(&self, guest: u32) -> bool
         ensures { result ≡ (names self.now).was_called guest };
 
-    /// Whether this standard stream of the guest of this number has a task.
-    fn has_task(&self, stream: Standard, guest: u32) -> bool
-        ensures { result ≡ (names self.now).has_task stream guest };
-
     /// Whether there is an input of this name that a task reads ahead.
     fn reads_ahead(&self, name: &[u8]) -> bool
         ensures { result ≡ (names self.now).reads_ahead name.now };
@@ -62,7 +57,7 @@ pub trait Declared {
             Line::Configure { guest, setting } => {
                 self.allow_set_up(*guest) && self.allow_setting(setting)
             }
-            Line::Call { guest, call } => self.has_guest(*guest) && self.allow_call(*guest, call),
+            Line::Call { guest, call: _ } => self.has_guest(*guest),
             Line::Worker(_) => true,
             Line::Turn(task) => self.allow_turn(task),
         }
@@ -113,19 +108,6 @@ pub trait Declared {
         }
     }
 
-    /// Whether a guest may call this: it polls no stream that has a task.
-    final fn allow_call(&self, guest: u32, call: &Call) -> bool
-        ensures { result ≡ call_stands (names self.now) guest call.now }
-    {
-        match call {
-            Call::Open {
-                stream,
-                access: Access::Polled,
-            } => !self.has_task(*stream, guest),
-            Call::Open { .. } | Call::On { .. } | Call::Drop { .. } | Call::Own(_) => true,
-        }
-    }
-
     /// Whether this task may have its turn.
     final fn allow_turn(&self, task: &StreamTask) -> bool
         ensures { result ≡ turn_stands (names self.now) task.now }
@@ -168,15 +150,11 @@ fn has_flag(flags: &[bool; 64], guest: u32) -> bool
     guest < 64 && flags[guest as usize]
 }
 
-/// What the lines so far declared: guests, inputs and outputs; which of the guests have called, and
-/// which of their standard streams have a task.
+/// What the lines so far declared: guests, inputs and outputs, and which of the guests have called.
 #[derive(Drop)]
 pub struct Declarations {
     declared: [bool; 64],
     called: [bool; 64],
-    input_tasks: [bool; 64],
-    output_tasks: [bool; 64],
-    error_tasks: [bool; 64],
     inputs: NameSet,
     outputs: NameSet,
 }
@@ -206,14 +184,6 @@ impl Declared for Declarations {
         has_flag(&self.called, guest)
     }
 
-    fn has_task(&self, stream: Standard, guest: u32) -> bool {
-        match stream {
-            Standard::Input => has_flag(&self.input_tasks, guest),
-            Standard::Output => has_flag(&self.output_tasks, guest),
-            Standard::Error => has_flag(&self.error_tasks, guest),
-        }
-    }
-
     fn reads_ahead(&self, name: &[u8]) -> bool {
         self.inputs.has_task(name)
     }
@@ -232,57 +202,8 @@ impl Declarations {
         Declarations {
             declared: [false; 64],
             called: [false; 64],
-            input_tasks: [false; 64],
-            output_tasks: [false; 64],
-            error_tasks: [false; 64],
             inputs: NameSet::none(alloc),
             outputs: NameSet::none(alloc),
-        }
-    }
-
-    // whether a guest's input has a task
-    fn input_has_task(&self, input: &Input) -> bool
-        ensures { result ≡ input_has_task (names_in self.now).reads_ahead input.now }
-    {
-        match input {
-            Input::Shared | Input::Empty | Input::Closed => false,
-            Input::Named(name) => self.inputs.has_task(name.as_bytes()),
-        }
-    }
-
-    // .. and an output of it
-    fn output_has_task(&self, output: &Output) -> bool
-        ensures { result ≡ output_has_task (names_in self.now).writes_behind output.now }
-    {
-        match output {
-            Output::Empty | Output::Sink | Output::Closed => false,
-            Output::Named(name) => self.outputs.has_task(name.as_bytes()),
-        }
-    }
-
-    fn declare_guest(&mut self, guest: u32, input: &Input)
-        requires { guest < 64 }
-        ensures { names_in self.new ≡ names_after (names_in self.old) (line.Guest guest input.now) }
-    {
-        let has_task = self.input_has_task(input);
-        self.input_tasks[guest as usize] = has_task;
-        self.declared[guest as usize] = true;
-    }
-
-    fn configure(&mut self, guest: u32, setting: &Setting)
-        requires { guest < 64 }
-        ensures { names_in self.new ≡ names_after (names_in self.old) (line.Configure guest setting.now) }
-    {
-        match setting {
-            Setting::Stdout(output) => {
-                let has_task = self.output_has_task(output);
-                self.output_tasks[guest as usize] = has_task;
-            }
-            Setting::Stderr(output) => {
-                let has_task = self.output_has_task(output);
-                self.error_tasks[guest as usize] = has_task;
-            }
-            Setting::Capacity(_) => {}
         }
     }
 
@@ -301,10 +222,9 @@ impl Declarations {
                 self.outputs
                     .add(alloc, name.as_bytes(), is_written_behind(output))?;
             }
-            Line::Guest { guest, input } => self.declare_guest(*guest, input),
-            Line::Configure { guest, setting } => self.configure(*guest, setting),
+            Line::Guest { guest, input: _ } => self.declared[*guest as usize] = true,
             Line::Call { guest, call: _ } => self.called[*guest as usize] = true,
-            Line::Worker(_) | Line::Turn(_) => {}
+            Line::Configure { .. } | Line::Worker(_) | Line::Turn(_) => {}
         }
         Ok(())
     }

@@ -6,7 +6,7 @@ use Rattle.wasi_script.specs.declared.lines.Input.{Input}
 use Rattle.wasi_script.specs.declared.lines.Output.{Output}
 use Rattle.wasi_host.specs.declared.entry.StreamEntry.{StreamEntry}
 use Rattle.wasi_host.specs.declared.settings.Settings.{Settings}
-use Rattle.wasi_host.specs.declared.owner.Owner.{Owner}
+use Rattle.wasi_cli.specs.declared.owner.Owner.{Owner}
 use Rattle.wasi_host.specs.Calls.{Doing, doing, called, sent}
 use Rattle.wasi_host.specs.Host.{Streams, input_at, put_input, output_at, put_output}
 

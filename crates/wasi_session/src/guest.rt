@@ -1,12 +1,12 @@
 ghost use Rattle.std.specs.Prelude.{◌≡◌, Some, IfOk, OnOk, OnErr, true, false};
 ghost use Rattle.wasi_reply.specs.Reply.{ends};
-ghost use Rattle.wasi_host.specs.Calls.{opened, owned, exit_status};
+ghost use Rattle.wasi_host.specs.Calls.{opened, stream_entry, owned, exit_status};
 ghost use Rattle.wasi_host.specs.Deeds.{entry_at};
 ghost use Rattle.wasi_session.specs.Makes.{IsMake};
 ghost use Rattle.wasi_session.specs.Capacities.{CapacityFits};
 ghost use Rattle.wasi_session.specs.StreamCalls.{stream_doing};
-ghost use Rattle.wasi_script.specs.Grammar.{input_has_task, output_has_task};
-ghost use Rattle.wasi_host.specs.Host.{task_of, reads_ahead_in, writes_behind_in, the_rules, new_guest, configured, left_guest, settled, answer_at, answer_to, answer_by};
+ghost use Rattle.wasi_host.specs.declared.leaver.Leaver.TheVariants as leaver;
+ghost use Rattle.wasi_host.specs.Host.{leave_entry, leave_all, the_rules, new_guest, configured, left_guest, settled, answer_at, answer_to, answer_by};
 
 use crate::own::Own;
 use crate::shared;
@@ -14,7 +14,8 @@ use crate::streams::Streams;
 use std::alloc::Global;
 use std::marker::Model;
 use wasi_base::{OutOfMemory, TrapText};
-use wasi_host::{Deed, Entry, Owner, Settings, SharedEntry, StreamEntry};
+use wasi_cli::{Owner, StdioHandle, StdoutHandle};
+use wasi_host::{Deed, Entry, Leaver, Settings, SharedEntry, StreamEntry};
 use wasi_reply::{Reply, Told};
 use wasi_script::{Access, Call, EntryCall, ExitStatus, Input, Output, OwnCall, Setting, Standard};
 use wasi_stdin::{StdinCore, Wait};
@@ -68,17 +69,6 @@ impl Guest {
         self.was_called
     }
 
-    /// Whether a standard stream of the guest has a task.
-    pub fn has_task(&self, stream: Standard, streams: &Streams) -> bool
-        ensures { result ≡ task_of streams.now stream (Some self.now) }
-    {
-        match stream {
-            Standard::Input => input_has_task(&self.settings.input, streams),
-            Standard::Output => output_has_task(&self.settings.stdout, streams),
-            Standard::Error => output_has_task(&self.settings.stderr, streams),
-        }
-    }
-
     /// Takes over what a line says of the guest. Out of memory leaves it as it was.
     pub fn configure(&mut self, alloc: Global, setting: &Setting) -> Result<(), OutOfMemory>
         requires { CapacityFits setting.now }
@@ -111,6 +101,9 @@ impl Guest {
         }
         let reply = self.answer(alloc, guest, call, core, streams)?;
         self.settle(&reply);
+        if self.ended {
+            self.leave(guest, streams);
+        }
         Ok(reply)
     }
 
@@ -122,6 +115,34 @@ impl Guest {
         self.ended = reply.ends();
         if self.ended {
             self.own.end();
+        }
+    }
+
+    // the guest ended: its turns on its streams pass on
+    fn leave(&self, guest: u32, streams: &mut Streams)
+        ensures { streams.new ≡ leave_all (leaver.Guest guest) self.now.settings streams.old }
+    {
+        let who = Leaver::Guest(guest);
+        streams.leave_input(&self.settings.input, who);
+        streams.leave_output(&self.settings.stdout, who);
+        streams.leave_output(&self.settings.stderr, who);
+    }
+
+    // .. and so do those of an entry that goes
+    fn leave_entry(&self, guest: u32, number: u64, streams: &mut Streams)
+        ensures { streams.new ≡ leave_entry (leaver.Entry (record { guest = guest; number = number })) (entry_at self.now.own number) self.now.settings streams.old }
+    {
+        let Some(number) = self.own.place(number) else {
+            return;
+        };
+        let who = Leaver::Entry(Owner { guest, number });
+        match self.own.entry(number) {
+            Some(Entry::Stream { stream, entry: _ }) => match stream {
+                Standard::Input => streams.leave_input(&self.settings.input, who),
+                Standard::Output => streams.leave_output(&self.settings.stdout, who),
+                Standard::Error => streams.leave_output(&self.settings.stderr, who),
+            },
+            Some(Entry::Shared(_)) | None => {}
         }
     }
 
@@ -147,13 +168,12 @@ impl Guest {
                 })
             }
             Call::On { number, call } => {
-                let at = Owner {
-                    guest,
-                    number: *number,
-                };
-                self.answer_at(alloc, call, at, core, streams)
+                self.answer_at(alloc, call, guest, *number, core, streams)
             }
-            Call::Drop { number } => Ok(self.own.drop(*number)),
+            Call::Drop { number } => {
+                self.leave_entry(guest, *number, streams);
+                Ok(self.own.drop(*number))
+            }
             Call::Own(call) => {
                 let deed = self.owned(call);
                 self.own.act_apart(deed)
@@ -166,15 +186,20 @@ impl Guest {
         &mut self,
         alloc: Global,
         call: &EntryCall,
-        at: Owner,
+        guest: u32,
+        number: u64,
         core: &mut StdinCore,
         streams: &mut Streams,
     ) -> Result<Reply, OutOfMemory>
-        ensures done { IfOk result (λ reply. settled self.old (record { reply = reply; own = self.new.own }) core.new streams.new ≡ answer_at the_rules call.now at (entry_at self.old.own at.number) self.old core.old streams.old) }
+        ensures done { IfOk result (λ reply. settled self.old (record { reply = reply; own = self.new.own }) core.new streams.new ≡ answer_at the_rules call.now (record { guest = guest; number = number }) (entry_at self.old.own number) self.old core.old streams.old) }
         ensures rest { self.new ≡ record self.old { own = self.new.own } }
         ensures err { OnErr result ((self.new ≡ self.old) × (core.new ≡ core.old) × (streams.new ≡ streams.old)) }
     {
-        match self.own.entry(at.number) {
+        let Some(number) = self.own.place(number) else {
+            return Ok(Reply::Told(Told::Trap(TrapText::ResourceNotPresent)));
+        };
+        let at = Owner { guest, number };
+        match self.own.entry(number) {
             None => Ok(Reply::Told(Told::Trap(TrapText::ResourceNotPresent))),
             Some(Entry::Shared(entry)) => {
                 let entry = *entry;
@@ -225,24 +250,6 @@ impl Guest {
     }
 }
 
-fn input_has_task(input: &Input, streams: &Streams) -> bool
-    ensures { result ≡ input_has_task (reads_ahead_in streams.now) input.now }
-{
-    match input {
-        Input::Named(name) => streams.reads_ahead(name.as_bytes()),
-        Input::Shared | Input::Empty | Input::Closed => false,
-    }
-}
-
-fn output_has_task(output: &Output, streams: &Streams) -> bool
-    ensures { result ≡ output_has_task (writes_behind_in streams.now) output.now }
-{
-    match output {
-        Output::Named(name) => streams.writes_behind(name.as_bytes()),
-        Output::Empty | Output::Sink | Output::Closed => false,
-    }
-}
-
 fn copy_output(alloc: Global, output: &Output) -> Result<Output, OutOfMemory>
     ensures { IfOk result (λ copy. copy ≡ output.now) }
 {
@@ -268,11 +275,21 @@ fn opened(input: &Input, stream: Standard, access: Access) -> Entry
         },
         _ => Entry::Stream {
             stream,
-            entry: match access {
-                Access::Plain => StreamEntry::Plain,
-                Access::Polled => StreamEntry::Polled,
-            },
+            entry: stream_entry(access),
         },
+    }
+}
+
+// .. and how it is on a stream
+fn stream_entry(access: Access) -> StreamEntry
+    ensures { result ≡ stream_entry access }
+{
+    match access {
+        Access::Plain => StreamEntry::Plain,
+        Access::Polled => StreamEntry::Polled(StdoutHandle {
+            handle: StdioHandle::Ready,
+            flushing: false,
+        }),
     }
 }
 

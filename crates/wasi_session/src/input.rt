@@ -1,14 +1,16 @@
 ghost use Rattle.std.specs.Prelude.{◌≡◌, IfOk, OnOk, OnErr};
-ghost use Rattle.wasi_host.specs.InStreams.{input_read, input_skip, after_input_read, input_poll_read, after_input_poll_read, input_is_ready};
+ghost use Rattle.wasi_host.specs.InStreams.{input_read, input_skip, after_input_read, input_poll_read, after_input_poll_read, input_is_ready, input_block, after_input_block, input_without};
 ghost use Rattle.wasi_host.specs.Tasks.{input_turned};
-ghost use Rattle.wasi_host.specs.Calls.{called, result_told, poll_told};
+ghost use Rattle.wasi_host.specs.declared.stream.InStream.TheVariants as in_stream;
+ghost use Rattle.wasi_host.specs.Calls.{called, polled_read, result_told, poll_told};
 ghost use Rattle.wasi_session.specs.Makes.{IsMake};
 
 use crate::answers::{mistaken, told_count};
 use bytes::Bytes;
 use std::alloc::Global;
 use wasi_base::{OutOfMemory, Polled, StreamError};
-use wasi_host::{Deed, Entry, InStream, Owner, StreamEntry};
+use wasi_cli::{Owner, StdoutHandle};
+use wasi_host::{AsyncInput, Deed, Entry, InStream, Leaver, StreamEntry};
 use wasi_reply::{Piece, Told, Worked};
 use wasi_script::{EntryCall, Standard};
 use wasi_streams::InputStream;
@@ -37,13 +39,16 @@ pub fn called(
                 stream: Standard::Input,
                 entry: StreamEntry::Pollable,
             },
-            parent: Some(at.number),
+            parent: Some(u64::from(at.number)),
         }),
-        (EntryCall::PollRead { room }, StreamEntry::Polled) => {
-            Ok(Deed::Tell(poll_read(alloc, stream, *room)?))
+        (EntryCall::PollRead { room }, StreamEntry::Polled(handle)) => {
+            polled_read(alloc, stream, at, handle, *room)
         }
-        (EntryCall::Ready | EntryCall::Block, StreamEntry::Pollable) => {
+        (EntryCall::Ready, StreamEntry::Pollable) => {
             Ok(Deed::Tell(Told::Truth(is_ready(stream))))
+        }
+        (EntryCall::Block, StreamEntry::Pollable) => {
+            Ok(Deed::Tell(Told::Truth(block(stream, at)?)))
         }
         _ => Ok(mistaken()),
     }
@@ -95,6 +100,65 @@ fn skip(stream: &mut InStream, size: u64) -> Told
     told_count(answer)
 }
 
+// A poll of an input that guests share by turns keeps its handle in its entry; any other has none.
+fn polled_read(
+    alloc: Global,
+    stream: &mut InStream,
+    at: Owner,
+    handle: StdoutHandle,
+    room: u64,
+) -> Result<Deed, OutOfMemory>
+    ensures deed { IfOk result (λ deed. deed ≡ (polled_read at handle stream.old room).deed) }
+    ensures left { OnOk result (stream.new ≡ (polled_read at handle stream.old room).left) }
+    ensures made { IfOk result (λ deed. IsMake deed → stream.new ≡ stream.old) }
+    ensures err { OnErr result (stream.new ≡ stream.old) }
+{
+    match stream {
+        InStream::Async(input) => polled_shared_read(alloc, input, at, handle, room),
+        InStream::Closed | InStream::Pipe(_) | InStream::File(_) => {
+            Ok(Deed::Tell(poll_read(alloc, stream, room)?))
+        }
+    }
+}
+
+fn polled_shared_read(
+    alloc: Global,
+    input: &mut AsyncInput,
+    at: Owner,
+    handle: StdoutHandle,
+    room: u64,
+) -> Result<Deed, OutOfMemory>
+    ensures deed { IfOk result (λ deed. deed ≡ (polled_read at handle (in_stream.Async input.old) room).deed) }
+    ensures left { IfOk result (λ deed. in_stream.Async input.new ≡ (polled_read at handle (in_stream.Async input.old) room).left) }
+    ensures made { IfOk result (λ deed. IsMake deed → ⊥) }
+    ensures err { OnErr result (input.new ≡ input.old) }
+{
+    let mut polled = handle.handle;
+    let answer = input.poll_read(alloc, at, &mut polled, room)?;
+    let handle = StdoutHandle {
+        handle: polled,
+        flushing: handle.flushing,
+    };
+    Ok(Deed::Change {
+        number: u64::from(at.number),
+        entry: Entry::Stream {
+            stream: Standard::Input,
+            entry: StreamEntry::Polled(handle),
+        },
+        told: told_polled_bytes(answer),
+    })
+}
+
+fn told_polled_bytes(answer: Polled<Bytes>) -> Told
+    ensures { result ≡ poll_told Told.Bytes answer }
+{
+    match answer {
+        Polled::Pending => Told::Pending,
+        Polled::Ready(bytes) => Told::Bytes(Piece::shared(bytes)),
+        Polled::Failed(kind) => Told::Failed(kind),
+    }
+}
+
 fn poll_read(alloc: Global, stream: &mut InStream, room: u64) -> Result<Told, OutOfMemory>
     ensures told { IfOk result (λ told. told ≡ poll_told Told.Bytes (input_poll_read stream.old room)) }
     ensures left { OnOk result (stream.new ≡ after_input_poll_read stream.old room) }
@@ -107,9 +171,7 @@ fn poll_read(alloc: Global, stream: &mut InStream, room: u64) -> Result<Told, Ou
         InStream::Closed => Ok(Polled::Ready(Bytes::new())),
     };
     match answer {
-        Ok(Polled::Pending) => Ok(Told::Pending),
-        Ok(Polled::Ready(bytes)) => Ok(Told::Bytes(Piece::shared(bytes))),
-        Ok(Polled::Failed(kind)) => Ok(Told::Failed(kind)),
+        Ok(answer) => Ok(told_polled_bytes(answer)),
         Err(OutOfMemory) => Err(OutOfMemory),
     }
 }
@@ -121,6 +183,28 @@ fn is_ready(stream: &mut InStream) -> bool
     match stream {
         InStream::Async(input) => input.ready(),
         InStream::Closed | InStream::Pipe(_) | InStream::File(_) => true,
+    }
+}
+
+// A block of a pollable under its own number.
+fn block(stream: &mut InStream, at: Owner) -> Result<bool, OutOfMemory>
+    ensures answer { IfOk result (λ over. over ≡ input_block stream.old at) }
+    ensures left { OnOk result (stream.new ≡ after_input_block stream.old at) }
+    ensures err { OnErr result (stream.new ≡ stream.old) }
+{
+    match stream {
+        InStream::Async(input) => input.block(at),
+        InStream::Closed | InStream::Pipe(_) | InStream::File(_) => Ok(true),
+    }
+}
+
+/// Who leaves has no turn on an input any more, and waits for none.
+pub fn leave_input(stream: &mut InStream, who: Leaver)
+    ensures { stream.new ≡ input_without who stream.old }
+{
+    match stream {
+        InStream::Async(input) => input.leave(who),
+        InStream::Closed | InStream::Pipe(_) | InStream::File(_) => {}
     }
 }
 

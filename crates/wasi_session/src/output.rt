@@ -1,7 +1,7 @@
 ghost use Rattle.std.specs.Prelude.{◌≡◌, IfOk, OnOk, OnErr};
-ghost use Rattle.wasi_host.specs.OutStreams.{output_check_write, after_output_check_write, output_write, after_output_write, output_flush, after_output_flush, output_poll_write, after_output_poll_write, output_poll_flush, after_output_poll_flush, output_is_ready};
+ghost use Rattle.wasi_host.specs.OutStreams.{output_check_write, after_output_check_write, output_write, after_output_write, output_flush, after_output_flush, output_poll_write, after_output_poll_write, output_poll_flush, after_output_poll_flush, output_is_ready, output_block, after_output_block, output_without};
 ghost use Rattle.wasi_host.specs.Tasks.{output_turned};
-ghost use Rattle.wasi_host.specs.Calls.{sent, result_told, poll_told, is_done};
+ghost use Rattle.wasi_host.specs.Calls.{sent, polled_write, polled_flush, result_told, poll_told, is_done};
 ghost use Rattle.wasi_session.specs.Makes.{IsMake};
 
 use crate::answers::{mistaken, told_count, told_done, told_polled_count, told_polled_done};
@@ -9,7 +9,8 @@ use crate::room::shared_bytes;
 use bytes::Bytes;
 use std::alloc::Global;
 use wasi_base::{OutOfMemory, Polled, StreamError};
-use wasi_host::{Deed, Entry, OutStream, Owner, StreamEntry};
+use wasi_cli::{Owner, StdoutHandle};
+use wasi_host::{Deed, Entry, Leaver, OutStream, StreamEntry};
 use wasi_reply::{Told, Worked};
 use wasi_script::{EntryCall, Standard};
 use wasi_streams::OutputStream;
@@ -41,15 +42,20 @@ pub fn sent(
                 stream: to,
                 entry: StreamEntry::Pollable,
             },
-            parent: Some(at.number),
+            parent: Some(u64::from(at.number)),
         }),
-        (EntryCall::PollWrite { bytes }, StreamEntry::Polled) => {
+        (EntryCall::PollWrite { bytes }, StreamEntry::Polled(handle)) => {
             let bytes = shared_bytes(alloc, bytes)?;
-            Ok(Deed::Tell(poll_write(stream, bytes.as_slice())))
+            polled_write(alloc, stream, to, at, handle, bytes.as_slice())
         }
-        (EntryCall::PollFlush, StreamEntry::Polled) => Ok(Deed::Tell(poll_flush(stream))),
-        (EntryCall::Ready | EntryCall::Block, StreamEntry::Pollable) => {
+        (EntryCall::PollFlush, StreamEntry::Polled(handle)) => {
+            polled_flush(stream, to, at, handle)
+        }
+        (EntryCall::Ready, StreamEntry::Pollable) => {
             Ok(Deed::Tell(Told::Truth(is_ready(stream))))
+        }
+        (EntryCall::Block, StreamEntry::Pollable) => {
+            Ok(Deed::Tell(Told::Truth(block(stream, at)?)))
         }
         _ => Ok(mistaken()),
     }
@@ -114,6 +120,73 @@ fn flush(stream: &mut OutStream) -> Told
     told_done(answer)
 }
 
+// A poll of an output that guests share by turns keeps its handle in its entry; any other has none.
+fn polled_write(
+    alloc: Global,
+    stream: &mut OutStream,
+    to: Standard,
+    at: Owner,
+    handle: StdoutHandle,
+    piece: &[u8],
+) -> Result<Deed, OutOfMemory>
+    ensures deed { IfOk result (λ deed. deed ≡ (polled_write to at handle stream.old piece.now).deed) }
+    ensures left { OnOk result (stream.new ≡ (polled_write to at handle stream.old piece.now).left) }
+    ensures made { IfOk result (λ deed. IsMake deed → stream.new ≡ stream.old) }
+    ensures err { OnErr result (stream.new ≡ stream.old) }
+{
+    match stream {
+        OutStream::Buffered(output) => {
+            let mut handle = handle;
+            let answer = output.poll_write(alloc, at, &mut handle, piece)?;
+            Ok(kept(to, at, handle, told_polled_count(answer)))
+        }
+        OutStream::Closed
+        | OutStream::Sink
+        | OutStream::Pipe(_)
+        | OutStream::File(_)
+        | OutStream::Stdio(_) => Ok(Deed::Tell(poll_write(stream, piece))),
+    }
+}
+
+fn polled_flush(
+    stream: &mut OutStream,
+    to: Standard,
+    at: Owner,
+    handle: StdoutHandle,
+) -> Result<Deed, OutOfMemory>
+    ensures deed { IfOk result (λ deed. deed ≡ (polled_flush to at handle stream.old).deed) }
+    ensures left { OnOk result (stream.new ≡ (polled_flush to at handle stream.old).left) }
+    ensures made { IfOk result (λ deed. IsMake deed → stream.new ≡ stream.old) }
+    ensures err { OnErr result (stream.new ≡ stream.old) }
+{
+    match stream {
+        OutStream::Buffered(output) => {
+            let mut handle = handle;
+            let answer = output.poll_flush(at, &mut handle)?;
+            Ok(kept(to, at, handle, told_polled_done(answer)))
+        }
+        OutStream::Closed
+        | OutStream::Sink
+        | OutStream::Pipe(_)
+        | OutStream::File(_)
+        | OutStream::Stdio(_) => Ok(Deed::Tell(poll_flush(stream))),
+    }
+}
+
+// the entry keeps the handle that the poll leaves
+fn kept(to: Standard, at: Owner, handle: StdoutHandle, told: Told) -> Deed
+    ensures { result ≡ Deed.Change at.number (Entry.Stream to (StreamEntry.Polled handle)) told }
+{
+    Deed::Change {
+        number: u64::from(at.number),
+        entry: Entry::Stream {
+            stream: to,
+            entry: StreamEntry::Polled(handle),
+        },
+        told,
+    }
+}
+
 fn poll_write(stream: &mut OutStream, piece: &[u8]) -> Told
     ensures told { result ≡ poll_told Told.Count (output_poll_write stream.old piece.now) }
     ensures left { stream.new ≡ after_output_poll_write stream.old piece.now }
@@ -153,6 +226,36 @@ fn is_ready(stream: &mut OutStream) -> bool
         | OutStream::Pipe(_)
         | OutStream::File(_)
         | OutStream::Stdio(_) => true,
+    }
+}
+
+// A block of a pollable under its own number.
+fn block(stream: &mut OutStream, at: Owner) -> Result<bool, OutOfMemory>
+    ensures answer { IfOk result (λ over. over ≡ output_block stream.old at) }
+    ensures left { OnOk result (stream.new ≡ after_output_block stream.old at) }
+    ensures err { OnErr result (stream.new ≡ stream.old) }
+{
+    match stream {
+        OutStream::Buffered(output) => output.block(at),
+        OutStream::Closed
+        | OutStream::Sink
+        | OutStream::Pipe(_)
+        | OutStream::File(_)
+        | OutStream::Stdio(_) => Ok(true),
+    }
+}
+
+/// Who leaves has no turn on an output any more, and waits for none.
+pub fn leave_output(stream: &mut OutStream, who: Leaver)
+    ensures { stream.new ≡ output_without who stream.old }
+{
+    match stream {
+        OutStream::Buffered(output) => output.leave(who),
+        OutStream::Closed
+        | OutStream::Sink
+        | OutStream::Pipe(_)
+        | OutStream::File(_)
+        | OutStream::Stdio(_) => {}
     }
 }
 

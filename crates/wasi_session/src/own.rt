@@ -63,8 +63,8 @@ impl Own {
         self.table.clear();
     }
 
-    // A script's number as the table's: no entry of a sound table has a greater one.
-    fn narrow(&self, number: u64) -> Option<u32>
+    /// A script's number as the table's: no entry of a sound table has a greater one.
+    pub fn place(&self, number: u64) -> Option<u32>
         ensures { MatchOption result (entry_at self.now number ≡ None) (λ narrow. narrow ≡ number) }
     {
         let _live = self.table.len();
@@ -72,12 +72,11 @@ impl Own {
     }
 
     /// What stands at a number.
-    pub fn entry(&self, number: u64) -> Option<&Entry>
+    pub fn entry(&self, number: u32) -> Option<&Entry>
         ensures { option_copied result ≡ entry_at self.now number }
     {
-        let narrow = self.narrow(number)?;
-        let kind = self.table.kind_of(narrow).ok()?;
-        self.table.get(narrow, kind).ok()
+        let kind = self.table.kind_of(number).ok()?;
+        self.table.get(number, kind).ok()
     }
 
     /// Does what a rule answers, and tells what is to be told. Out of memory does nothing.
@@ -140,7 +139,7 @@ impl Own {
     fn parent_of(&self, entry: &Entry, parent: u64) -> Option<u32>
         ensures { MatchOption result (goes_under entry.now (entry_at self.now parent) ≡ false) (λ found. (found ≡ parent) × (goes_under entry.now (entry_at self.now parent) ≡ true) × (is_live self.now.table parent ≡ true)) }
     {
-        let narrow = self.narrow(parent)?;
+        let narrow = self.place(parent)?;
         let kind = self.table.kind_of(narrow).ok()?;
         match self.table.get(narrow, kind) {
             Ok(there) => {
@@ -170,7 +169,7 @@ impl Own {
     fn place_of(&self, entry: &Entry, number: u64) -> Option<u32>
         ensures { MatchOption result (may_change (entry_at self.now number) entry.now ≡ false) (λ found. (found ≡ number) × (may_change (entry_at self.now number) entry.now ≡ true) × (is_live self.now.table number ≡ true)) }
     {
-        let narrow = self.narrow(number)?;
+        let narrow = self.place(number)?;
         let kind = self.table.kind_of(narrow).ok()?;
         match self.table.get(narrow, kind) {
             Ok(there) => {
@@ -231,7 +230,7 @@ impl Own {
     pub fn drop(&mut self, number: u64) -> Reply
         ensures { record { reply = result; own = self.new } ≡ dropped number self.old }
     {
-        let Some(narrow) = self.narrow(number) else {
+        let Some(narrow) = self.place(number) else {
             return trap(TrapText::ResourceNotPresent);
         };
         let Ok(kind) = self.table.kind_of(narrow) else {

@@ -7,7 +7,8 @@ use crate::answers::mistaken;
 use crate::room::room_of;
 use std::alloc::Global;
 use wasi_base::OutOfMemory;
-use wasi_host::{Deed, Entry, Owner, SharedEntry};
+use wasi_cli::Owner;
+use wasi_host::{Deed, Entry, SharedEntry};
 use wasi_reply::{Piece, Told};
 use wasi_script::EntryCall;
 use wasi_stdin::{Answer, PolledRead, StdinCore, Wait};
@@ -33,7 +34,7 @@ pub fn asked(
         (EntryCall::Skip { size }, SharedEntry::Reader) => Ok(Deed::Tell(skip(core, *size))),
         (EntryCall::Subscribe, SharedEntry::Reader) => Ok(Deed::Make {
             entry: Entry::Shared(SharedEntry::Pollable(Wait::new())),
-            parent: Some(at.number),
+            parent: Some(u64::from(at.number)),
         }),
         (EntryCall::PollRead { room }, SharedEntry::Polled(wait)) => {
             poll_read(alloc, core, at.number, wait, *room)
@@ -75,7 +76,7 @@ fn skip(core: &mut StdinCore, size: u64) -> Told
 fn poll_read(
     alloc: Global,
     core: &mut StdinCore,
-    number: u64,
+    number: u32,
     wait: Wait,
     room: u64,
 ) -> Result<Deed, OutOfMemory>
@@ -94,20 +95,20 @@ fn poll_read(
         PolledRead::Failed(kind) => Told::Failed(kind),
     };
     Ok(Deed::Change {
-        number,
+        number: u64::from(number),
         entry: Entry::Shared(SharedEntry::Polled(wait)),
         told,
     })
 }
 
-fn block(core: &mut StdinCore, number: u64, wait: Wait) -> Deed
+fn block(core: &mut StdinCore, number: u32, wait: Wait) -> Deed
     ensures deed { result ≡ Deed.Change number (Entry.Shared (SharedEntry.Pollable (wait_after_block core.old wait))) (Told.Truth (block_of core.old wait)) }
     ensures left { core.new ≡ after_block core.old wait }
 {
     let mut wait = wait;
     let told = Told::Truth(core.block(&mut wait));
     Deed::Change {
-        number,
+        number: u64::from(number),
         entry: Entry::Shared(SharedEntry::Pollable(wait)),
         told,
     }

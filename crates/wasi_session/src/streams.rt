@@ -7,18 +7,21 @@ ghost use Rattle.wasi_host.specs.declared.stream.InStream.TheVariants as in_stre
 ghost use Rattle.wasi_host.specs.declared.stream.OutStream.TheVariants as out_stream;
 ghost use Rattle.wasi_host.specs.Calls.{called, sent};
 ghost use Rattle.wasi_host.specs.Tasks.{input_turned, output_turned};
-ghost use Rattle.wasi_host.specs.Host.{the_rules, names_in, is_reader, is_writer, reads_ahead_in, writes_behind_in, taken_out, put_back, task_told, after_task};
+ghost use Rattle.wasi_host.specs.Host.{the_rules, names_in, is_reader, is_writer, reads_ahead_in, writes_behind_in, taken_out, put_back, task_told, after_task, leave_input, leave_output};
+ghost use Rattle.wasi_host.specs.InStreams.{input_without};
+ghost use Rattle.wasi_host.specs.OutStreams.{output_without};
 ghost use Rattle.wasi_host.specs.Transcript.{outputs_of};
 ghost use Rattle.wasi_session.specs.Makes.{IsMake};
 ghost use Rattle.wasi_session.specs.StreamCalls.{input_doing, output_doing};
 
-use crate::input::{called, called_closed, read_ahead};
-use crate::output::{sent, sent_closed, write_behind};
+use crate::input::{called, called_closed, leave_input, read_ahead};
+use crate::output::{leave_output, sent, sent_closed, write_behind};
 use indexmap::IndexMap;
 use std::alloc::Global;
 use std::marker::Model;
 use wasi_base::OutOfMemory;
-use wasi_host::{Deed, InStream, OutStream, Owner, StreamEntry};
+use wasi_cli::Owner;
+use wasi_host::{Deed, InStream, Leaver, OutStream, StreamEntry};
 use wasi_reply::{Worked, push_output};
 use wasi_script::{EntryCall, Input, Name, Output, Standard, StreamTask};
 
@@ -209,6 +212,44 @@ impl Streams {
         match self.outputs.get_mut(name) {
             Some(stream) => sent(alloc, stream, call, which, at, entry),
             None => sent_closed(alloc, call, which, at, entry),
+        }
+    }
+
+    /// Who leaves has no turn on an input of a guest any more, and waits for none.
+    pub fn leave_input(&mut self, from: &Input, who: Leaver)
+        ensures { self.new ≡ leave_input who from.now self.old }
+    {
+        match from {
+            Input::Named(name) => self.leave_input_named(name.as_bytes(), who),
+            Input::Shared | Input::Empty | Input::Closed => {}
+        }
+    }
+
+    fn leave_input_named(&mut self, name: &[u8], who: Leaver)
+        ensures { self.new ≡ record self.old { inputs = put_back name.now (input_without who (taken_out in_stream.Closed name.now self.old.inputs)) self.old.inputs } }
+    {
+        match self.inputs.get_mut(name) {
+            Some(stream) => leave_input(stream, who),
+            None => {}
+        }
+    }
+
+    /// The same on an output.
+    pub fn leave_output(&mut self, to: &Output, who: Leaver)
+        ensures { self.new ≡ leave_output who to.now self.old }
+    {
+        match to {
+            Output::Named(name) => self.leave_output_named(name.as_bytes(), who),
+            Output::Empty | Output::Sink | Output::Closed => {}
+        }
+    }
+
+    fn leave_output_named(&mut self, name: &[u8], who: Leaver)
+        ensures { self.new ≡ record self.old { outputs = put_back name.now (output_without who (taken_out out_stream.Closed name.now self.old.outputs)) self.old.outputs } }
+    {
+        match self.outputs.get_mut(name) {
+            Some(stream) => leave_output(stream, who),
+            None => {}
         }
     }
 

@@ -23,8 +23,7 @@ use wasi_host::{
 };
 use wasi_reply::{Reply, Told, Worked};
 use wasi_script::{
-    Call, Declared, Input, InputDeclaration, Line, Name, OutputDeclaration, Setting, Standard,
-    StreamTask, WorkerTurn, WritePlan,
+    Call, Declared, Input, InputDeclaration, Line, Name, OutputDeclaration, Setting, StreamTask, WorkerTurn, WritePlan,
 };
 use wasi_stdin::{MOST_BYTES, Outcome, StdinCore, deliver_from};
 use wasi_streams::{MemoryInputPipe, MemoryOutputPipe};
@@ -329,13 +328,6 @@ impl Declared for World {
     fn was_called(&self, guest: u32) -> bool {
         match self.guest(guest) {
             Some(guest) => guest.was_called(),
-            None => false,
-        }
-    }
-
-    fn has_task(&self, stream: Standard, guest: u32) -> bool {
-        match self.guest(guest) {
-            Some(guest) => guest.has_task(stream, &self.streams),
             None => false,
         }
     }

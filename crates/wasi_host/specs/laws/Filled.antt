@@ -15,9 +15,11 @@ use Rattle.wasi_reply.specs.declared.reply.Reply.TheVariants as reply
 use Rattle.wasi_host.specs.declared.entry.StreamEntry.{StreamEntry}
 use Rattle.wasi_host.specs.declared.stream.OutStream.{OutStream}
 use Rattle.wasi_host.specs.declared.stream.OutStream.TheVariants as stream
-use Rattle.wasi_host.specs.OutStreams.{taken_of}
+use Rattle.wasi_host.specs.declared.entry.Entry.TheVariants as entry
+use Rattle.wasi_host.specs.declared.leaver.Leaver.{Leaver}
+use Rattle.wasi_host.specs.OutStreams.{taken_of, output_without}
 use Rattle.wasi_host.specs.Tasks.{output_turned}
-use Rattle.wasi_host.specs.Deeds.{Own}
+use Rattle.wasi_host.specs.Deeds.{Own, entry_at}
 use Rattle.wasi_host.specs.Calls.{Owner}
 use Rattle.wasi_host.specs.Host.{Named, Host, new_output, step_host, step_told, given_for, size_read, new_host, host_end}
 use Rattle.wasi_host.specs.Promises.{is_direct, direct_taken, Fills, FillsAll, OutputFills}
@@ -49,8 +51,8 @@ new_fills (declared_out.File room plan) answer = inr refl
 new_fills (declared_out.Stdio room plan) answer = inr refl
 new_fills (declared_out.Buffered room plan budget) answer = inl refl
 
-sends_fill : (it : EntryCall) (which : Standard) (at : Owner) (e : StreamEntry) (own : Own) (s : OutStream) → FillsIn (Some (it, e)) (told_by it which at e own s) (Some s) (Some (left_by it which at e s))
-sends_fill it which at e own s = by (is_direct s) refl
+sends_fill : (it : EntryCall) (which : Standard) (at : Owner) (e : StreamEntry) (own : Own) (s : OutStream) → entry_at own at.number ≡ Some (entry.Stream which e) → FillsIn (Some (it, e)) (told_by it which at e own s) (Some s) (Some (left_by it which at e s))
+sends_fill it which at e own s held = by (is_direct s) refl
   where
     left : OutStream
     left = left_by it which at e s
@@ -71,12 +73,21 @@ turns_fill (stream.Stdio out) answer = (out.taken, refl, refl)
 turns_fill stream.Closed answer = inl refl
 turns_fill stream.Sink answer = inl refl
 
+leaves_fill : (on : Option (EntryCall × StreamEntry)) (answer : Reply) (before : Option OutStream) (who : Leaver) (s : OutStream) → FillsIn on answer before (Some s) → FillsIn on answer before (Some (output_without who s))
+leaves_fill on answer before who (stream.Buffered it) fills = fills
+leaves_fill on answer before who (stream.Pipe pipe) fills = fills
+leaves_fill on answer before who (stream.File out) fills = fills
+leaves_fill on answer before who (stream.Stdio out) fills = fills
+leaves_fill on answer before who stream.Closed fills = fills
+leaves_fill on answer before who stream.Sink fills = fills
+
 each_fills : HoldsOfEach FillsIn
 each_fills = record {
   keeps = λ answer o. still answer (direct_in o);
   declares = new_fills;
   sends = sends_fill;
   misses = λ it which at e own. inl refl;
+  leaves = leaves_fill;
   turns = λ s. turns_fill s (reply.Worked (output_turned s).told);
 }
 

@@ -5,7 +5,7 @@ use Rattle.std.specs.Ordering.{nat_cmp}
 use Rattle.std.specs.FinSet.{FinSet, empty}
 use Rattle.wasi_base.specs.Source.{Told}
 use Rattle.wasi_base.specs.declared.trap_text.TrapText.TheVariants.{ResourceNotPresent, ResourceWrongType, ResourceTableFull}
-use Rattle.wasi_table.specs.Table.{Held, new_table, held_at, entry_in, live_count, next_number, with_pushed}
+use Rattle.wasi_table.specs.Table.{Held, new_table, held_at, entry_in, parent_in, live_count, next_number, with_pushed}
 use Rattle.wasi_table.specs.laws.Kept.{held-next_number}
 use Rattle.wasi_stdin.specs.Shared.{Shared, IsSound}
 use Rattle.wasi_script.specs.declared.lines.Input.{Input}
@@ -25,17 +25,19 @@ use Rattle.wasi_host.specs.declared.entry.Entry.{Entry}
 use Rattle.wasi_host.specs.declared.entry.Entry.TheVariants as entry
 use Rattle.wasi_host.specs.declared.entry.SharedEntry.{SharedEntry}
 use Rattle.wasi_host.specs.declared.entry.SharedEntry.TheVariants as on
+use Rattle.wasi_host.specs.declared.entry.StreamEntry.TheVariants as stream
+use Rattle.wasi_host.specs.declared.leaver.Leaver.TheVariants as leaver
 use Rattle.wasi_host.specs.declared.stream.InStream.{InStream}
 use Rattle.wasi_host.specs.declared.stream.OutStream.{OutStream}
 use Rattle.wasi_host.specs.declared.deed.Deed.{Deed}
 use Rattle.wasi_host.specs.declared.deed.Deed.TheVariants.{Tell, Make, Change}
 use Rattle.wasi_host.specs.Deeds.{Own, Done, trapped, entry_at, may_make, may_change, made, with_kept, act, dropped, is_shared, apart}
 use Rattle.wasi_host.specs.Calls.{Doing, doing, opened, asked, called, sent, owned as own_deed, shared_entry, stream_entry}
-use Rattle.wasi_host.specs.Host.{Guest, Streams, the_rules, Answered, settled, answer_at, answer_to, answer_by, input_at, put_input, output_at, put_output}
+use Rattle.wasi_host.specs.Host.{Guest, Streams, the_rules, Answered, settled, leave_entry, answer_at, answer_to, answer_by, input_at, put_input, output_at, put_output}
 use Rattle.wasi_host.specs.Run.{Standing, Sharing, at_number, without_guest, dropped_by, live_after, left_by, EntryRule, entry_bytes, CallRule, OpenRule, DropRule, EndedRule, call_bytes}
 use Rattle.wasi_host.specs.Run as run
 use Rattle.wasi_host.specs.laws.Entries.{IsOwn, own_left, Follows, acts, drops, live_is}
-use Rattle.wasi_host.specs.laws.Shown.{standing_by, standing_at, standing_in, standing_with, shares_in, capacity_in, ended_in, shown, cond_same, with_own, put_alike, put_same, nothing_stands, stands_there, standing_pushed}
+use Rattle.wasi_host.specs.laws.Shown.{standing_by, standing_at, standing_in, standing_kept, standing_with, shares_in, capacity_in, ended_in, shown, cond_same, with_own, put_alike, put_same, nothing_stands, stands_there, standing_pushed}
 use Rattle.wasi_host.specs.laws.SharedCalls.{Called, called_by, Does, none_handed, entry_does, open_does, drop_does}
 
 -- ---- a deed that is apart from the shared input
@@ -43,10 +45,18 @@ apart_none : (it : Entry) (parent : Option ℕ) → is_shared it ≡ false → s
 apart_none (entry.Shared it) parent e = absurd (true≢false e)
 apart_none other parent e = refl
 
-changes_shared : (old : Option Entry) (new : Entry) → may_change old new ≡ true → is_shared new ≡ true
-changes_shared (Some (entry.Shared (on.Polled a))) (entry.Shared (on.Polled b)) e = refl
-changes_shared (Some (entry.Shared (on.Pollable a))) (entry.Shared (on.Pollable b)) e = refl
-changes_shared old new e = absurd (true≢false (sym e))
+stays_apart : (old new : Entry) → may_change (Some old) new ≡ true → is_shared new ≡ false → is_shared old ≡ false
+stays_apart (entry.Shared (on.Polled a)) (entry.Shared (on.Polled b)) e none = none
+stays_apart (entry.Shared (on.Pollable a)) (entry.Shared (on.Pollable b)) e none = none
+stays_apart (entry.Stream to (stream.Polled a)) (entry.Stream at (stream.Polled b)) e none = refl
+stays_apart old new e none = absurd (true≢false (sym e))
+
+kept_still : (own : Own) (n : ℕ) (it : Entry) (o : Option (Held Entry)) → held_at own.table n ≡ o → may_change (entry_in o) it ≡ true → is_shared it ≡ false → (m : ℕ) → standing_in (with_kept own n it) m ≡ standing_in own m
+kept_still own n it None there change none m = absurd (true≢false (sym change))
+kept_still own n it (Some held) there change none m =
+    standing_kept own n it held.parent m (ap parent_in there)
+    ∙ ap (λ o. cond (nat_eq m n) o (standing_in own m)) (apart_none it held.parent none)
+    ∙ cond_same (standing_in own) m n None (ap standing_at there ∙ apart_none held.entry held.parent (stays_apart held.entry it change none))
 
 module _ (own : Own) (live : FinSet nat_cmp) (is : IsOwn own live) where
   made_still : (it : Entry) (parent : Option ℕ) → is_shared it ≡ false → (m : ℕ) → standing_in (made it parent own).own m ≡ standing_in own m
@@ -76,7 +86,7 @@ module _ (own : Own) (live : FinSet nat_cmp) (is : IsOwn own live) where
   stands_still (Change n it answer) m = by (is_shared it) refl
     where
       may : (b : Bool) → may_change (entry_at own n) it ≡ b → is_shared it ≡ false → standing_in (cond b (record { reply = reply.Told answer; own = with_kept own n it }) (trapped ResourceWrongType own)).own m ≡ standing_in own m
-      may true e none = absurd (true≢false (sym (changes_shared (entry_at own n) it e) ∙ none))
+      may true e none = kept_still own n it (held_at own.table n) refl e none m
       may false e none = refl
 
       by : (b : Bool) → is_shared it ≡ b → standing_in (act (cond b (Tell (tell.Trap ResourceWrongType)) (Change n it answer)) own).own m ≡ standing_in own m
@@ -263,7 +273,7 @@ module _ (input front : List ℕ) (shared : Shared) (guests : ℕ → Option Gue
   pub goes_next : (c : Call) (streams : Streams) → Goes c (answer_to the_rules c g guest shared streams)
   goes_next (call.Open it how) streams = opens it how guest.settings.input streams refl
   goes_next (call.On n it) streams = entry_next it n (held_at guest.own.table n) streams refl
-  goes_next (call.Drop n) streams = drop_next n streams
+  goes_next (call.Drop n) streams = drop_next n (leave_entry (leaver.Entry (record { guest = g; number = n })) (entry_at guest.own n) guest.settings streams)
   goes_next (call.Own it) streams = own_next it (own_deed it guest.settings guest.own) streams
 
 pub call_next : (b : Bool) (c : Call) (input front : List ℕ) (shared : Shared) (guests : ℕ → Option Guest) (live : ℕ → FinSet nat_cmp) (told : Told) (g : ℕ) (guest : Guest) (streams : Streams) → guest.ended ≡ b → guests g ≡ Some guest → IsGuest guest (live g) → ((m : ℕ) → OwnedBy (guests m) (live m)) → IsSound shared → input ≡ front ++ (shared.held ++ told.left) → let done : Answered = answer_by b the_rules c g guest shared streams in Next input front shared guests live told (λ s. call_bytes b c input s g done.reply) (λ s s'. EndedRule b c input s g done.reply s') done.shared (at_number guests g (Some done.guest)) told

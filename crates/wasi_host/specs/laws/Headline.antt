@@ -20,7 +20,7 @@ use Rattle.wasi_script.specs.declared.lines.WorkerTurn.{WorkerTurn}
 use Rattle.wasi_script.specs.declared.lines.WorkerTurn.TheVariants as turn
 use Rattle.wasi_script.specs.declared.lines.Line.{Line}
 use Rattle.wasi_script.specs.declared.lines.Line.TheVariants as line
-use Rattle.wasi_script.specs.Grammar.{AllStand, may_stand, may_set_up, call_stands, setting_stands, no_names, Names, names_end}
+use Rattle.wasi_script.specs.Grammar.{AllStand, may_stand, may_set_up, setting_stands, no_names, Names, names_end}
 use Rattle.wasi_script.specs.laws.Distinct.{declared_names_distinct}
 use Rattle.wasi_table.specs.Table.{Held, held_at}
 use Rattle.wasi_reply.specs.Outputs.{output_lines}
@@ -177,7 +177,7 @@ step_on input (line.Guest n reads) host told at fits =
 step_on input (line.Configure n it) host told at fits = configured_on input n it host told at (guests_of host.guests n) refl fits
 step_on input (line.Call n c) host told at fits =
     let done = answer the_rules c n host in
-    let there : is_some (guests_of host.guests n) ≡ true = first_of _ (call_stands (names_of host) n c) fits in
+    let there : is_some (guests_of host.guests n) ≡ true = fits in
     let next = call_next_in (guests_of host.guests n) input n c host told at refl there in
     let below : n < length host.guests = within host.guests n there in
     let put = guests_set host.guests n done.guest below in

@@ -45,13 +45,17 @@ use Rattle.wasi_host.specs.declared.stream.OutStream.{OutStream}
 use Rattle.wasi_host.specs.declared.stream.OutStream.TheVariants as out_stream
 use Rattle.wasi_host.specs.declared.deed.Deed.{Deed}
 use Rattle.wasi_host.specs.declared.deed.Deed.TheVariants.{Tell, Make, Change}
-use Rattle.wasi_host.specs.OutStreams.{taken_of}
+use Rattle.wasi_host.specs.declared.leaver.Leaver.{Leaver}
+use Rattle.wasi_host.specs.declared.leaver.Leaver.TheVariants as leaver
+use Rattle.wasi_host.specs.InStreams.{input_without}
+use Rattle.wasi_host.specs.OutStreams.{taken_of, output_without}
 use Rattle.wasi_host.specs.Deeds.{Own, Done, trapped, entry_at, may_make, may_change, made, with_kept, act, dropped, dropped_at, is_shared, apart}
 use Rattle.wasi_host.specs.Calls.{Owner, opened}
-use Rattle.wasi_host.specs.Host.{Named, Guest, left_own, left_guest, Streams, taken_out, put_back, input_at, put_input, output_at, put_output, Host, Rules, the_rules, Answered, guest_of, new_guest, configured, new_host, new_input, new_output, answer_at, answer_to, answer_by, answer_in, answer, given_for, size_read, step_reply, step_host, step_told, reply_by, host_by, replies, host_end}
+use Rattle.wasi_host.specs.Host.{Named, Guest, left_own, left_guest, Streams, taken_out, put_back, input_at, put_input, output_at, put_output, leave_input, leave_output, leave_entry, leave_all, left_streams, Host, Rules, the_rules, Answered, guest_of, new_guest, configured, new_host, new_input, new_output, answer_at, answer_to, answer_by, answer_in, answer, given_for, size_read, step_reply, step_host, step_told, reply_by, host_by, replies, host_end}
 use Rattle.wasi_host.specs.Host as host
 use Rattle.wasi_host.specs.Run as run
 use Rattle.wasi_host.specs.Promises.{SeesSame}
+use Rattle.wasi_host.specs.laws.Steps.{left_false, right_false}
 use Rattle.wasi_host.specs.View.{input_names, output_names, setting_names, line_names, names_by, is_guest, is_other, is_seen, view, shares, IsApart, kept_if, replies_to, outputs_seen, IsAlone}
 
 -- ---- a place in a list
@@ -276,13 +280,31 @@ module _ (rules : Rules) (mine : List ℕ → Bool) (g : ℕ) where
   at_other it at (Some (entry.Stream standard.Output e)) guest s streams fits = put_output_other guest.settings.stdout _ streams fits.writes
   at_other it at (Some (entry.Stream standard.Error e)) guest s streams fits = put_output_other guest.settings.stderr _ streams fits.tells
 
+  trans_same : (three two one : Streams) → Same three two → Same two one → Same three one
+  trans_same three two one b a = record { inputs = b.inputs ∙ a.inputs; outputs = b.outputs ∙ a.outputs }
+
+  entry_other : (who : Leaver) (o : Option Entry) (guest : Guest) (streams : Streams) → Fits false guest → Same (leave_entry who o guest.settings streams) streams
+  entry_other who None guest streams fits = same_refl streams
+  entry_other who (Some (entry.Shared e)) guest streams fits = same_refl streams
+  entry_other who (Some (entry.Stream standard.Input e)) guest streams fits = put_input_other guest.settings.input _ streams fits.reads
+  entry_other who (Some (entry.Stream standard.Output e)) guest streams fits = put_output_other guest.settings.stdout _ streams fits.writes
+  entry_other who (Some (entry.Stream standard.Error e)) guest streams fits = put_output_other guest.settings.stderr _ streams fits.tells
+
+  left_other : (b : Bool) (who : Leaver) (guest : Guest) (streams : Streams) → Fits false guest → Same (cond b (leave_all who guest.settings streams) streams) streams
+  left_other true who guest streams fits =
+      let one = leave_input who guest.settings.input streams in
+      let two = leave_output who guest.settings.stdout one in
+      trans_same (leave_output who guest.settings.stderr two) two streams (put_output_other guest.settings.stderr _ two fits.tells) (trans_same two one streams (put_output_other guest.settings.stdout _ one fits.writes) (put_input_other guest.settings.input _ streams fits.reads))
+  left_other false who guest streams fits = same_refl streams
+
   to_other : (c : Call) (k : ℕ) (guest : Guest) (s : Shared) (streams : Streams) → Fits false guest → Same (answer_to rules c k guest s streams).streams streams
   to_other (call.On n it) k guest s streams fits = at_other it (record { guest = k; number = n }) (entry_at guest.own n) guest s streams fits
+  to_other (call.Drop n) k guest s streams fits = entry_other (leaver.Entry (record { guest = k; number = n })) (entry_at guest.own n) guest streams fits
   to_other other k guest s streams fits = same_refl streams
 
   by_other : (b : Bool) (c : Call) (k : ℕ) (guest : Guest) (s : Shared) (streams : Streams) → Fits false guest → Same (answer_by b rules c k guest s streams).streams streams
   by_other true c k guest s streams fits = same_refl streams
-  by_other false c k guest s streams fits = to_other c k guest s streams fits
+  by_other false c k guest s streams fits = let done = answer_to rules c k guest s streams in trans_same (left_streams done.reply k guest.settings done.streams) done.streams streams (left_other (ends done.reply) (leaver.Guest k) guest done.streams fits) (to_other c k guest s streams fits)
 
   in_other : (c : Call) (k : ℕ) (o : Option Guest) (s : Shared) (streams : Streams) → nat_eq k g ≡ false → FitsAt k o → Same (answer_in rules c k o s streams).streams streams
   in_other c k None s streams apart fits = same_refl streams
@@ -353,15 +375,45 @@ module _ (rules : Rules) (mine : List ℕ → Bool) (g : ℕ) where
       by (entry.Stream standard.Output e) none = on_output it at standard.Output e guest.settings.stdout guest s s' one two fits.writes same
       by (entry.Stream standard.Error e) none = on_output it at standard.Error e guest.settings.stderr guest s s' one two fits.tells same
 
+  leave_input_same : (who : Leaver) (from : Input) (one two : Streams) → InputApart mine true from → Same one two → Same (leave_input who from one) (leave_input who from two)
+  leave_input_same who from one two apart same = put_input_same from (input_without who (input_at from one)) (input_without who (input_at from two)) one two apart (ap (input_without who) (input_same from one two apart same)) same
+
+  leave_output_same : (who : Leaver) (to : Output) (one two : Streams) → OutputApart mine true to → Same one two → Same (leave_output who to one) (leave_output who to two)
+  leave_output_same who to one two apart same = put_output_same to (output_without who (output_at to one)) (output_without who (output_at to two)) one two apart (ap (output_without who) (output_same to one two apart same)) same
+
+  entry_same : (who : Leaver) (o : Option Entry) (guest : Guest) (one two : Streams) → Fits true guest → Same one two → Same (leave_entry who o guest.settings one) (leave_entry who o guest.settings two)
+  entry_same who None guest one two fits same = same
+  entry_same who (Some (entry.Shared e)) guest one two fits same = same
+  entry_same who (Some (entry.Stream standard.Input e)) guest one two fits same = leave_input_same who guest.settings.input one two fits.reads same
+  entry_same who (Some (entry.Stream standard.Output e)) guest one two fits same = leave_output_same who guest.settings.stdout one two fits.writes same
+  entry_same who (Some (entry.Stream standard.Error e)) guest one two fits same = leave_output_same who guest.settings.stderr one two fits.tells same
+
+  left_same : (b : Bool) (who : Leaver) (guest : Guest) (one two : Streams) → Fits true guest → Same one two → Same (cond b (leave_all who guest.settings one) one) (cond b (leave_all who guest.settings two) two)
+  left_same true who guest one two fits same =
+      let read = leave_input_same who guest.settings.input one two fits.reads same in
+      let written = leave_output_same who guest.settings.stdout (leave_input who guest.settings.input one) (leave_input who guest.settings.input two) fits.writes read in
+      leave_output_same who guest.settings.stderr (leave_output who guest.settings.stdout (leave_input who guest.settings.input one)) (leave_output who guest.settings.stdout (leave_input who guest.settings.input two)) fits.tells written
+  left_same false who guest one two fits same = same
+
   to_told : (c : Call) (k : ℕ) (guest : Guest) (s s' : Shared) (one two : Streams) → Fits true guest → Same one two → Tells (answer_to rules c k guest s one) (answer_to rules c k guest s' two)
   to_told (call.On n it) k guest s s' one two fits same = at_told it (record { guest = k; number = n }) (held_at guest.own.table n) guest s s' one two (fits.unshared refl n) fits same
   to_told (call.Open it how) k guest s s' one two fits same = record { reply = refl; guest = refl; streams = same }
-  to_told (call.Drop n) k guest s s' one two fits same = record { reply = refl; guest = refl; streams = same }
+  to_told (call.Drop n) k guest s s' one two fits same = record { reply = refl; guest = refl; streams = entry_same (leaver.Entry (record { guest = k; number = n })) (entry_at guest.own n) guest one two fits same }
   to_told (call.Own it) k guest s s' one two fits same = record { reply = refl; guest = refl; streams = same }
 
   by_told : (b : Bool) (c : Call) (k : ℕ) (guest : Guest) (s s' : Shared) (one two : Streams) → Fits true guest → Same one two → Tells (answer_by b rules c k guest s one) (answer_by b rules c k guest s' two)
   by_told true c k guest s s' one two fits same = record { reply = refl; guest = refl; streams = same }
-  by_told false c k guest s s' one two fits same = to_told c k guest s s' one two fits same
+  by_told false c k guest s s' one two fits same =
+      let a = answer_to rules c k guest s one in
+      let b = answer_to rules c k guest s' two in
+      let told = to_told c k guest s s' one two fits same in
+      record {
+        reply = told.reply;
+        guest = told.guest;
+        streams = trans_same (left_streams a.reply k guest.settings a.streams) (left_streams a.reply k guest.settings b.streams) (left_streams b.reply k guest.settings b.streams)
+            (left_same (ends a.reply) (leaver.Guest k) guest a.streams b.streams fits told.streams)
+            (record { inputs = ap (λ answer. kept mine (left_streams answer k guest.settings b.streams).inputs) told.reply; outputs = ap (λ answer. kept mine (left_streams answer k guest.settings b.streams).outputs) told.reply });
+      }
 
   in_told : (c : Call) (k : ℕ) (o : Option Guest) (s s' : Shared) (one two : Streams) → nat_eq k g ≡ true → FitsAt k o → Same one two → Tells (answer_in rules c k o s one) (answer_in rules c k o s' two)
   in_told c k None s s' one two own fits same = record { reply = refl; guest = refl; streams = same }
@@ -508,14 +560,6 @@ or_left false b e = absurd (true≢false (sym e))
 or_right : (a b : Bool) → b ≡ true → (a || b) ≡ true
 or_right true b e = refl
 or_right false b e = e
-
-left_false : (a b : Bool) → (a || b) ≡ false → a ≡ false
-left_false true b e = absurd (true≢false e)
-left_false false b e = refl
-
-right_false : (a b : Bool) → (a || b) ≡ false → b ≡ false
-right_false true b e = absurd (true≢false e)
-right_false false b e = e
 
 same_bytes : (n : List ℕ) → bytes_eq n n ≡ true
 same_bytes n = (bytes_eq-Decides n n).1 refl

@@ -19,9 +19,10 @@ use Rattle.wasi_host.specs.declared.entry.StreamEntry.{StreamEntry}
 use Rattle.wasi_host.specs.declared.entry.StreamEntry.TheVariants as at
 use Rattle.wasi_host.specs.declared.stream.OutStream.{OutStream}
 use Rattle.wasi_host.specs.declared.stream.OutStream.TheVariants as stream
-use Rattle.wasi_host.specs.OutStreams.{taken_of, after_output_check_write, after_output_write, after_output_flush, after_output_poll_write, after_output_poll_flush, output_write, output_poll_write}
+use Rattle.wasi_host.specs.OutStreams.{taken_of, after_output_check_write, after_output_write, after_output_flush, after_output_poll_write, after_output_block, output_write, output_poll_write}
 use Rattle.wasi_host.specs.Deeds.{Own, act, apart}
-use Rattle.wasi_host.specs.Calls.{Owner, sent, result_told, poll_told, is_done}
+use Rattle.wasi_cli.specs.declared.stdout_handle.StdoutHandle.{StdoutHandle}
+use Rattle.wasi_host.specs.Calls.{Owner, sent, polled_write, polled_flush, result_told, poll_told, is_done}
 use Rattle.wasi_host.specs.Promises.{Took, is_direct, Keeps}
 
 -- ---- a pipe
@@ -97,23 +98,38 @@ flush_took (stream.Stdio out) is = refl
 flush_took (stream.Buffered writer) is = absurd (true≢false (sym is))
 flush_took other is = refl
 
-poll_flush_keeps : (s : OutStream) → is_direct s ≡ true → (is_direct (after_output_poll_flush s) ≡ true) × (taken_of (after_output_poll_flush s) ≡ taken_of s)
-poll_flush_keeps (stream.Buffered writer) is = absurd (true≢false (sym is))
-poll_flush_keeps (stream.File out) is = (refl, refl)
-poll_flush_keeps (stream.Stdio out) is = (refl, refl)
-poll_flush_keeps other is = (is, refl)
-
 check_keeps : (s : OutStream) → is_direct s ≡ true → (is_direct (after_output_check_write s) ≡ true) × (taken_of (after_output_check_write s) ≡ taken_of s)
 check_keeps (stream.Buffered writer) is = absurd (true≢false (sym is))
 check_keeps other is = (is, refl)
 
+block_keeps : (owner : Owner) (s : OutStream) → is_direct s ≡ true → (is_direct (after_output_block s owner) ≡ true) × (taken_of (after_output_block s owner) ≡ taken_of s)
+block_keeps owner (stream.Buffered it) is = absurd (true≢false (sym is))
+block_keeps owner other is = (is, refl)
+
+polled_write_keeps : (bytes : List ℕ) (to : Standard) (owner : Owner) (handle : StdoutHandle) (s : OutStream) (own : Own) → is_direct s ≡ true → let done = polled_write to owner handle s bytes in Keeps (on.PollWrite bytes) (at.Polled handle) s done.left (act (apart done.deed) own).reply
+polled_write_keeps bytes to owner handle (stream.Pipe pipe) own is = let kept = poll_write_keeps bytes (stream.Pipe pipe) is in record { direct = kept.direct; took = (poll_told told.Count (output_poll_write (stream.Pipe pipe) bytes), refl, kept.took) }
+polled_write_keeps bytes to owner handle (stream.File out) own is = let kept = poll_write_keeps bytes (stream.File out) is in record { direct = kept.direct; took = (poll_told told.Count (output_poll_write (stream.File out) bytes), refl, kept.took) }
+polled_write_keeps bytes to owner handle (stream.Stdio out) own is = let kept = poll_write_keeps bytes (stream.Stdio out) is in record { direct = kept.direct; took = (poll_told told.Count (output_poll_write (stream.Stdio out) bytes), refl, kept.took) }
+polled_write_keeps bytes to owner handle (stream.Buffered it) own is = absurd (true≢false (sym is))
+polled_write_keeps bytes to owner handle stream.Closed own is = absurd (true≢false (sym is))
+polled_write_keeps bytes to owner handle stream.Sink own is = absurd (true≢false (sym is))
+
+polled_flush_keeps : (to : Standard) (owner : Owner) (handle : StdoutHandle) (s : OutStream) (own : Own) → is_direct s ≡ true → let done = polled_flush to owner handle s in Keeps on.PollFlush (at.Polled handle) s done.left (act (apart done.deed) own).reply
+polled_flush_keeps to owner handle (stream.Pipe pipe) own is = record { direct = is; took = refl }
+polled_flush_keeps to owner handle (stream.File out) own is = record { direct = refl; took = refl }
+polled_flush_keeps to owner handle (stream.Stdio out) own is = record { direct = refl; took = refl }
+polled_flush_keeps to owner handle (stream.Buffered it) own is = absurd (true≢false (sym is))
+polled_flush_keeps to owner handle stream.Closed own is = absurd (true≢false (sym is))
+polled_flush_keeps to owner handle stream.Sink own is = absurd (true≢false (sym is))
+
 pub outputs_keep : (it : EntryCall) (to : Standard) (owner : Owner) (entry : StreamEntry) (s : OutStream) (own : Own) → is_direct s ≡ true → let done = sent it to owner entry s in Keeps it entry s done.left (act (apart done.deed) own).reply
 outputs_keep (on.Write bytes) to owner at.Plain s own is = let kept = write_keeps bytes s is in record { direct = kept.direct; took = (result_told is_done (output_write s bytes), refl, kept.took) }
-outputs_keep (on.PollWrite bytes) to owner at.Polled s own is = let kept = poll_write_keeps bytes s is in record { direct = kept.direct; took = (poll_told told.Count (output_poll_write s bytes), refl, kept.took) }
+outputs_keep (on.PollWrite bytes) to owner (at.Polled handle) s own is = polled_write_keeps bytes to owner handle s own is
 outputs_keep on.Flush to owner at.Plain s own is = record { direct = flush_direct s is; took = flush_took s is }
-outputs_keep on.PollFlush to owner at.Polled s own is = let kept = poll_flush_keeps s is in record { direct = kept.0; took = kept.1 }
+outputs_keep on.PollFlush to owner (at.Polled handle) s own is = polled_flush_keeps to owner handle s own is
 outputs_keep on.CheckWrite to owner at.Plain s own is = let kept = check_keeps s is in record { direct = kept.0; took = kept.1 }
 outputs_keep on.Ready to owner at.Pollable s own is = record { direct = is; took = refl }
+outputs_keep on.Block to owner at.Pollable s own is = let kept = block_keeps owner s is in record { direct = kept.0; took = kept.1 }
 outputs_keep other to owner at.Plain s own is = record { direct = is; took = refl }
-outputs_keep other to owner at.Polled s own is = record { direct = is; took = refl }
+outputs_keep other to owner (at.Polled handle) s own is = record { direct = is; took = refl }
 outputs_keep other to owner at.Pollable s own is = record { direct = is; took = refl }

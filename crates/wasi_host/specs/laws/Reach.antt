@@ -1,7 +1,7 @@
 -- A call stays in its guest's reach: it changes nothing of other guests, of streams but the one that it is on, and of the
 -- shared input unless it is on that. What is taken out of the streams is put back. No rule is opened.
 use Rattle.std.proofs.Common.{◌≡◌, ℕ, Bool, true, false, cond, List, [], ◌∷◌, get_or, Option, Some, None, refl, ap, sym, ◌∙◌, true≢false}
-use Rattle.std.specs.Prelude.{is_some, unwrap_or}
+use Rattle.std.specs.Prelude.{is_some, unwrap_or, ◌&&◌, ◌||◌}
 use Rattle.std.specs.Map.{lookup, set_value}
 use Rattle.std.specs.Option.{option_map}
 use Rattle.std.specs.Str.{bytes_eq}
@@ -20,13 +20,18 @@ use Rattle.wasi_host.specs.declared.entry.Entry.{Entry}
 use Rattle.wasi_host.specs.declared.entry.Entry.TheVariants as entry
 use Rattle.wasi_host.specs.declared.stream.InStream.{InStream}
 use Rattle.wasi_host.specs.declared.stream.OutStream.{OutStream}
-use Rattle.wasi_host.specs.Deeds.{entry_at}
+use Rattle.wasi_reply.specs.Reply.{ends}
+use Rattle.wasi_host.specs.declared.leaver.Leaver.{Leaver}
+use Rattle.wasi_host.specs.declared.leaver.Leaver.TheVariants as leaver
+use Rattle.wasi_host.specs.InStreams.{input_without}
+use Rattle.wasi_host.specs.OutStreams.{output_without}
+use Rattle.wasi_host.specs.Deeds.{Done, entry_at, dropped}
 use Rattle.wasi_host.specs.Calls.{Owner, Settings}
-use Rattle.wasi_host.specs.Host.{Named, Guest, Streams, Host, Rules, Answered, put_back, input_at, put_input, output_at, put_output, guest_of, answer_at, answer_to, answer_by, answer_in, answer, called_in}
+use Rattle.wasi_host.specs.Host.{Named, Guest, Streams, Host, Rules, Answered, put_back, input_at, put_input, output_at, put_output, settled, leave_input, leave_output, leave_entry, leave_all, guest_of, answer_at, answer_to, answer_by, answer_in, answer, called_in}
 use Rattle.wasi_host.specs.View.{input_names, output_names}
-use Rattle.wasi_host.specs.Promises.{entry_of, is_on_input, is_on_output, is_on_shared, InReach, PutsBack}
+use Rattle.wasi_host.specs.Promises.{entry_of, is_on_input, is_on_output, is_on_shared, reaches_input, reaches_output, InReach, PutsBack}
 use Rattle.wasi_host.specs.laws.Shown.{get_set}
-use Rattle.wasi_host.specs.laws.Steps.{within}
+use Rattle.wasi_host.specs.laws.Steps.{within, left_false, right_false}
 
 -- another name's stream stays where one name's is written
 other_test : (n name key : List ℕ) → bytes_eq n name ≡ false → bytes_eq n key ≡ true → bytes_eq name key ≡ false
@@ -60,6 +65,13 @@ pub output_apart : (to : Output) (it : OutStream) (streams : Streams) → (put_o
 output_apart (output.Named n) it streams = refl
 output_apart other it streams = refl
 
+-- who leaves a stream leaves those of other names
+left_input : (who : Leaver) (from : Input) (streams : Streams) (name : List ℕ) → input_names from name ≡ false → lookup (bytes_eq name) (leave_input who from streams).inputs ≡ lookup (bytes_eq name) streams.inputs
+left_input who from streams name apart = input_still from (input_without who (input_at from streams)) streams name apart
+
+left_output : (who : Leaver) (to : Output) (streams : Streams) (name : List ℕ) → output_names to name ≡ false → lookup (bytes_eq name) (leave_output who to streams).outputs ≡ lookup (bytes_eq name) streams.outputs
+left_output who to streams name apart = output_still to (output_without who (output_at to streams)) streams name apart
+
 -- what a call leaves of all but its guest
 record Leaves (o : Option Entry) (settings : Settings) (done : Answered) (s : Shared) (streams : Streams) : Type 0 where
   inputs : (name : List ℕ) → is_on_input o settings name ≡ false → lookup (bytes_eq name) done.streams.inputs ≡ lookup (bytes_eq name) streams.inputs
@@ -80,17 +92,73 @@ at_leaves rules it at (Some (entry.Stream standard.Error e)) guest s streams =
     let left = (rules.sent it standard.Error at e (output_at guest.settings.stderr streams)).left in
     record { inputs = λ name apart. ap (lookup (bytes_eq name)) (output_apart guest.settings.stderr left streams); outputs = λ name apart. output_still guest.settings.stderr left streams name apart; shared = λ apart. refl; settings_are = refl }
 
+entry_leaves : (done : Done) (who : Leaver) (o : Option Entry) (guest : Guest) (s : Shared) (streams : Streams) → Leaves o guest.settings (settled guest done s (leave_entry who o guest.settings streams)) s streams
+entry_leaves done who None guest s streams = record { inputs = λ name apart. refl; outputs = λ name apart. refl; shared = λ apart. refl; settings_are = refl }
+entry_leaves done who (Some (entry.Shared e)) guest s streams = record { inputs = λ name apart. refl; outputs = λ name apart. refl; shared = λ apart. refl; settings_are = refl }
+entry_leaves done who (Some (entry.Stream standard.Input e)) guest s streams = record {
+  inputs = λ name apart. left_input who guest.settings.input streams name apart;
+  outputs = λ name apart. ap (lookup (bytes_eq name)) (input_apart guest.settings.input _ streams);
+  shared = λ apart. refl;
+  settings_are = refl;
+}
+entry_leaves done who (Some (entry.Stream standard.Output e)) guest s streams = record {
+  inputs = λ name apart. ap (lookup (bytes_eq name)) (output_apart guest.settings.stdout _ streams);
+  outputs = λ name apart. left_output who guest.settings.stdout streams name apart;
+  shared = λ apart. refl;
+  settings_are = refl;
+}
+entry_leaves done who (Some (entry.Stream standard.Error e)) guest s streams = record {
+  inputs = λ name apart. ap (lookup (bytes_eq name)) (output_apart guest.settings.stderr _ streams);
+  outputs = λ name apart. left_output who guest.settings.stderr streams name apart;
+  shared = λ apart. refl;
+  settings_are = refl;
+}
+
 to_leaves : (rules : Rules) (c : Call) (g : ℕ) (guest : Guest) (s : Shared) (streams : Streams) → Leaves (entry_of c guest) guest.settings (answer_to rules c g guest s streams) s streams
 to_leaves rules (call.On n it) g guest s streams = at_leaves rules it (record { guest = g; number = n }) (entry_at guest.own n) guest s streams
 to_leaves rules (call.Open it how) g guest s streams = record { inputs = λ name apart. refl; outputs = λ name apart. refl; shared = λ apart. refl; settings_are = refl }
-to_leaves rules (call.Drop n) g guest s streams = record { inputs = λ name apart. refl; outputs = λ name apart. refl; shared = λ apart. refl; settings_are = refl }
+to_leaves rules (call.Drop n) g guest s streams = entry_leaves (dropped n guest.own) (leaver.Entry (record { guest = g; number = n })) (entry_at guest.own n) guest s streams
 to_leaves rules (call.Own it) g guest s streams = record { inputs = λ name apart. refl; outputs = λ name apart. refl; shared = λ apart. refl; settings_are = refl }
 
-by_leaves : (rules : Rules) (b : Bool) (c : Call) (g : ℕ) (guest : Guest) (s : Shared) (streams : Streams) → Leaves (entry_of c guest) guest.settings (answer_by b rules c g guest s streams) s streams
-by_leaves rules true c g guest s streams = record { inputs = λ name apart. refl; outputs = λ name apart. refl; shared = λ apart. refl; settings_are = refl }
-by_leaves rules false c g guest s streams = to_leaves rules c g guest s streams
+-- .. and what it leaves once its guest ended
+all_left : (who : Leaver) (settings : Settings) (streams : Streams) (name : List ℕ) → output_names settings.stdout name ≡ false → output_names settings.stderr name ≡ false → lookup (bytes_eq name) (leave_all who settings streams).outputs ≡ lookup (bytes_eq name) streams.outputs
+all_left who settings streams name out error =
+    let one = leave_input who settings.input streams in
+    let two = leave_output who settings.stdout one in
+    left_output who settings.stderr two name error ∙ left_output who settings.stdout one name out ∙ ap (lookup (bytes_eq name)) (input_apart settings.input _ streams)
 
-pub calls_stay : (rules : Rules) (c : Call) (g : ℕ) (host : Host) (guest : Guest) → guest_of host g ≡ Some guest → InReach (entry_of c guest) host (called_in rules c g host) g guest
+input_left : (b : Bool) (who : Leaver) (settings : Settings) (streams : Streams) (name : List ℕ) → (b && input_names settings.input name) ≡ false → lookup (bytes_eq name) (cond b (leave_all who settings streams) streams).inputs ≡ lookup (bytes_eq name) streams.inputs
+input_left true who settings streams name apart =
+    let one = leave_input who settings.input streams in
+    let two = leave_output who settings.stdout one in
+    ap (lookup (bytes_eq name)) (output_apart settings.stderr _ two ∙ output_apart settings.stdout _ one) ∙ left_input who settings.input streams name apart
+input_left false who settings streams name apart = refl
+
+output_left : (b : Bool) (who : Leaver) (settings : Settings) (streams : Streams) (name : List ℕ) → (b && (output_names settings.stdout name || output_names settings.stderr name)) ≡ false → lookup (bytes_eq name) (cond b (leave_all who settings streams) streams).outputs ≡ lookup (bytes_eq name) streams.outputs
+output_left true who settings streams name apart = all_left who settings streams name (left_false _ (output_names settings.stderr name) apart) (right_false (output_names settings.stdout name) _ apart)
+output_left false who settings streams name apart = refl
+
+record LeavesBy (o : Option Entry) (settings : Settings) (done : Answered) (s : Shared) (streams : Streams) : Type 0 where
+  inputs : (name : List ℕ) → reaches_input done.reply o settings name ≡ false → lookup (bytes_eq name) done.streams.inputs ≡ lookup (bytes_eq name) streams.inputs
+  outputs : (name : List ℕ) → reaches_output done.reply o settings name ≡ false → lookup (bytes_eq name) done.streams.outputs ≡ lookup (bytes_eq name) streams.outputs
+  shared : is_on_shared o ≡ false → done.shared ≡ s
+  settings_are : done.guest.settings ≡ settings
+
+by_leaves : (rules : Rules) (b : Bool) (c : Call) (g : ℕ) (guest : Guest) (s : Shared) (streams : Streams) → LeavesBy (entry_of c guest) guest.settings (answer_by b rules c g guest s streams) s streams
+by_leaves rules true c g guest s streams = record { inputs = λ name apart. refl; outputs = λ name apart. refl; shared = λ apart. refl; settings_are = refl }
+by_leaves rules false c g guest s streams =
+    let done = answer_to rules c g guest s streams in
+    let leaves = to_leaves rules c g guest s streams in
+    record {
+      inputs = λ name apart. input_left (ends done.reply) (leaver.Guest g) guest.settings done.streams name (right_false (is_on_input (entry_of c guest) guest.settings name) _ apart)
+          ∙ leaves.inputs name (left_false _ (ends done.reply && input_names guest.settings.input name) apart);
+      outputs = λ name apart. output_left (ends done.reply) (leaver.Guest g) guest.settings done.streams name (right_false (is_on_output (entry_of c guest) guest.settings name) _ apart)
+          ∙ leaves.outputs name (left_false _ (ends done.reply && (output_names guest.settings.stdout name || output_names guest.settings.stderr name)) apart);
+      shared = leaves.shared;
+      settings_are = leaves.settings_are;
+    }
+
+pub calls_stay : (rules : Rules) (c : Call) (g : ℕ) (host : Host) (guest : Guest) → guest_of host g ≡ Some guest → InReach (answer rules c g host).reply (entry_of c guest) host (called_in rules c g host) g guest
 calls_stay rules c g host guest there =
     let below = within host.guests g (ap is_some there) in
     let done = answer rules c g host in
@@ -99,8 +167,8 @@ calls_stay rules c g host guest there =
       others = λ m apart. get_set host.guests g m (Some done.guest) None below ∙ ap (λ b. cond b (Some done.guest) (get_or host.guests m None)) (ne_eqb m g apart);
       settings = ap (option_map (λ (guest : Guest). guest.settings)) (get_set host.guests g g (Some done.guest) None below ∙ ap (λ b. cond b (Some done.guest) (get_or host.guests g None)) (eq-eqb g g refl))
           ∙ ap (λ o. Some (answer_in rules c g o host.shared host.streams).guest.settings) there ∙ ap Some leaves.settings_are;
-      inputs = λ name apart. ap (λ o. lookup (bytes_eq name) (answer_in rules c g o host.shared host.streams).streams.inputs) there ∙ leaves.inputs name apart;
-      outputs = λ name apart. ap (λ o. lookup (bytes_eq name) (answer_in rules c g o host.shared host.streams).streams.outputs) there ∙ leaves.outputs name apart;
+      inputs = λ name apart. ap (λ o. lookup (bytes_eq name) (answer_in rules c g o host.shared host.streams).streams.inputs) there ∙ leaves.inputs name (ap (λ o. reaches_input (answer_in rules c g o host.shared host.streams).reply (entry_of c guest) guest.settings name) (sym there) ∙ apart);
+      outputs = λ name apart. ap (λ o. lookup (bytes_eq name) (answer_in rules c g o host.shared host.streams).streams.outputs) there ∙ leaves.outputs name (ap (λ o. reaches_output (answer_in rules c g o host.shared host.streams).reply (entry_of c guest) guest.settings name) (sym there) ∙ apart);
       shared = λ apart. ap (λ o. (answer_in rules c g o host.shared host.streams).shared) there ∙ leaves.shared apart;
     }
 

@@ -1,8 +1,8 @@
 -- What steps come to: over a source that tells, what they declare, and how often they deliver.
-use Rattle.std.proofs.Common.{◌≡◌, ℕ, ◌+◌, ◌<◌, ◌≤◌, zero, suc, Bool, true, false, List, [], ◌∷◌, ◌++◌, length, get_or, set, drop, cond, Option, Some, None, refl, ap, arith, ◌∙◌, sym, subst, add-one}
+use Rattle.std.proofs.Common.{◌≡◌, ℕ, ◌+◌, ◌<◌, ◌≤◌, zero, suc, Bool, true, false, List, [], ◌∷◌, ◌++◌, length, get_or, set, drop, cond, Option, Some, None, refl, ap, arith, ◌∙◌, sym, subst, add-one, true≢false}
 use Rattle.std.specs.Str.{bytes_eq}
 use Rattle.std.specs.Map.{set_value}
-use Rattle.std.specs.Prelude.{MatchOption, is_some, ◌&&◌, not, nat_eq, replicate}
+use Rattle.std.specs.Prelude.{MatchOption, is_some, ◌&&◌, ◌||◌, not, nat_eq, replicate}
 use Rattle.std.specs.Option.{option_map}
 use Rattle.std.proofs.lemmas.Bool.Decides.{nat_tests}
 use Rattle.std.proofs.Math.ListN.{length-set}
@@ -28,7 +28,7 @@ use Rattle.wasi_script.specs.declared.lines.StreamTask.{StreamTask}
 use Rattle.wasi_script.specs.declared.lines.StreamTask.TheVariants as task
 use Rattle.wasi_script.specs.declared.lines.Line.{Line}
 use Rattle.wasi_script.specs.declared.lines.Line.TheVariants as line
-use Rattle.wasi_script.specs.Grammar.{Names, AllStand, may_stand, may_declare, budget_stands, call_stands, input_stands, input_has_task, output_has_task, with_task, tasks_after, names_after, no_names, setting_stands}
+use Rattle.wasi_script.specs.Grammar.{Names, AllStand, may_stand, may_declare, budget_stands, input_stands, names_after, no_names, setting_stands}
 use Rattle.wasi_script.specs.laws.Distinct.{is_new, first_is}
 use Rattle.wasi_reply.specs.declared.reply.Reply.{Reply}
 use Rattle.wasi_reply.specs.declared.reply.Reply.TheVariants as reply
@@ -37,12 +37,15 @@ use Rattle.wasi_host.specs.declared.entry.Entry.TheVariants as entry
 use Rattle.wasi_host.specs.declared.entry.SharedEntry.{SharedEntry}
 use Rattle.wasi_host.specs.declared.entry.SharedEntry.TheVariants as on
 use Rattle.wasi_host.specs.declared.stream.InStream.{InStream}
+use Rattle.wasi_reply.specs.Reply.{ends}
 use Rattle.wasi_host.specs.declared.stream.OutStream.{OutStream}
 use Rattle.wasi_host.specs.Deeds.{entry_at}
-use Rattle.wasi_host.specs.Calls.{Owner, asked}
-use Rattle.wasi_host.specs.Host.{Named, the_rules, Rules, Guest, Streams, configured, put_input, put_output, new_input, new_output, Host, IsStep, new_guest, answer_at, answer_to, answer_by, answer_in, answer, guest_of, was_called_in, names_in, reads_ahead_in, writes_behind_in, task_of, names_of, after_task, host_after, step_reply, step_host, step_told, delivery_told, after_delivery, given_for, told_for, new_host}
+use Rattle.wasi_host.specs.Calls.{Owner, Settings, asked}
+use Rattle.wasi_host.specs.declared.leaver.Leaver.{Leaver}
+use Rattle.wasi_host.specs.declared.leaver.Leaver.TheVariants as leaver
+use Rattle.wasi_host.specs.Host.{Named, the_rules, Rules, Guest, Streams, configured, put_input, put_output, new_input, new_output, Host, IsStep, new_guest, answer_at, answer_to, answer_by, answer_in, answer, guest_of, was_called_in, names_in, reads_ahead_in, writes_behind_in, leave_input, leave_output, leave_entry, leave_all, names_of, after_task, host_after, step_reply, step_host, step_told, delivery_told, after_delivery, given_for, told_for, new_host}
 use Rattle.wasi_host.specs.laws.Shown.{cond_same, get_set}
-use Rattle.wasi_host.specs.laws.Tasks.{call_kinds, turn_kinds, kinds_tasks, call_settings, called_task, NamesStand, GuestStands, GuestsStand, same_settings, stand_after, new_stands, configured_stands, input_tasks, output_tasks, readers_more, writers_more}
+use Rattle.wasi_host.specs.laws.Tasks.{call_kinds, turn_kinds, call_settings, NamesStand, GuestStands, GuestsStand, same_settings, stand_after, new_stands, configured_stands, readers_more, writers_more}
 
 -- over a source that tells, a step is a function of what it tells
 pub record IsToldStep (u : Told) (after : Option Told) (old new : Host) (step : Line) (answer : Reply) : Type 0 where
@@ -104,6 +107,14 @@ pub second_of : (a b : Bool) → (a && b) ≡ true → b ≡ true
 second_of true b h = h
 second_of false b h = absurd (cc)
 
+pub left_false : (a b : Bool) → (a || b) ≡ false → a ≡ false
+left_false true b e = absurd (true≢false e)
+left_false false b e = refl
+
+pub right_false : (a b : Bool) → (a || b) ≡ false → b ≡ false
+right_false true b e = absurd (true≢false e)
+right_false false b e = e
+
 -- ---- a call marks its guest as called, and leaves the names of the streams, whatever the rules are
 more_names : {A : Type 0} (named : Named A) (name : List ℕ) (it : A) → names_in (named ++ (name, it) ∷ []) ≡ names_in named ++ name ∷ []
 more_names [] name it = refl
@@ -129,6 +140,23 @@ put_output_names : (to : Output) (it : OutStream) (streams : Streams) → SameNa
 put_output_names (output.Named name) it streams = record { inputs = refl; outputs = same_names (bytes_eq name) streams.outputs it }
 put_output_names other it streams = record { inputs = refl; outputs = refl }
 
+trans_names : (three two one : Streams) → SameNames three two → SameNames two one → SameNames three one
+trans_names three two one b a = record { inputs = b.inputs ∙ a.inputs; outputs = b.outputs ∙ a.outputs }
+
+entry_names : (who : Leaver) (o : Option Entry) (settings : Settings) (streams : Streams) → SameNames (leave_entry who o settings streams) streams
+entry_names who None settings streams = record { inputs = refl; outputs = refl }
+entry_names who (Some (entry.Shared e)) settings streams = record { inputs = refl; outputs = refl }
+entry_names who (Some (entry.Stream standard.Input e)) settings streams = put_input_names settings.input _ streams
+entry_names who (Some (entry.Stream standard.Output e)) settings streams = put_output_names settings.stdout _ streams
+entry_names who (Some (entry.Stream standard.Error e)) settings streams = put_output_names settings.stderr _ streams
+
+left_names : (b : Bool) (who : Leaver) (settings : Settings) (streams : Streams) → SameNames (cond b (leave_all who settings streams) streams) streams
+left_names true who settings streams =
+    let one = leave_input who settings.input streams in
+    let two = leave_output who settings.stdout one in
+    trans_names (leave_output who settings.stderr two) two streams (put_output_names settings.stderr _ two) (trans_names two one streams (put_output_names settings.stdout _ one) (put_input_names settings.input _ streams))
+left_names false who settings streams = record { inputs = refl; outputs = refl }
+
 at_names : (rules : Rules) (it : EntryCall) (at : Owner) (o : Option Entry) (guest : Guest) (s : Shared) (streams : Streams) → SameNames (answer_at rules it at o guest s streams).streams streams
 at_names rules it at None guest s streams = record { inputs = refl; outputs = refl }
 at_names rules it at (Some (entry.Shared e)) guest s streams = record { inputs = refl; outputs = refl }
@@ -138,11 +166,12 @@ at_names rules it at (Some (entry.Stream standard.Error e)) guest s streams = pu
 
 to_names : (rules : Rules) (c : Call) (g : ℕ) (guest : Guest) (s : Shared) (streams : Streams) → SameNames (answer_to rules c g guest s streams).streams streams
 to_names rules (call.On n it) g guest s streams = at_names rules it (record { guest = g; number = n }) (entry_at guest.own n) guest s streams
+to_names rules (call.Drop n) g guest s streams = entry_names (leaver.Entry (record { guest = g; number = n })) (entry_at guest.own n) guest.settings streams
 to_names rules other g guest s streams = record { inputs = refl; outputs = refl }
 
 by_names : (rules : Rules) (b : Bool) (c : Call) (g : ℕ) (guest : Guest) (s : Shared) (streams : Streams) → SameNames (answer_by b rules c g guest s streams).streams streams
 by_names rules true c g guest s streams = record { inputs = refl; outputs = refl }
-by_names rules false c g guest s streams = to_names rules c g guest s streams
+by_names rules false c g guest s streams = let done = answer_to rules c g guest s streams in trans_names _ done.streams streams (left_names (ends done.reply) (leaver.Guest g) guest.settings done.streams) (to_names rules c g guest s streams)
 
 pub answered_names : (rules : Rules) (c : Call) (g : ℕ) (o : Option Guest) (s : Shared) (streams : Streams) → SameNames (answer_in rules c g o s streams).streams streams
 answered_names rules c g None s streams = record { inputs = refl; outputs = refl }
@@ -173,59 +202,17 @@ task_names : (rules : Rules) (it : StreamTask) (streams : Streams) → SameNames
 task_names rules (task.Reader name) streams = put_input_names (input.Named name) _ streams
 task_names rules (task.Writer name) streams = put_output_names (output.Named name) _ streams
 
--- ---- which of a guest's streams have a task, once it is declared or more is said of it
-no_task : (streams : Streams) (stream : Standard) (o : Option Guest) → is_some o ≡ false → task_of streams stream o ≡ false
-no_task streams stream None h = refl
-no_task streams stream (Some guest) h = absurd (cc)
-
-new_task : (old : Host) (n : ℕ) (reads : Input) → n < length old.guests → is_some (get_or old.guests n None) ≡ false → (stream : Standard) (m : ℕ) → task_of old.streams stream (get_or (set old.guests n (Some (new_guest reads))) m None) ≡ with_task standard.Input n (input_has_task (reads_ahead_in old.streams) reads) (names_of old).has_task stream m
-new_task old n reads lt new standard.Input m = told_at (task_of old.streams standard.Input) old.guests n m (Some (new_guest reads)) lt
-new_task old n reads lt new standard.Output m = told_same (task_of old.streams standard.Output) old.guests n m (Some (new_guest reads)) lt (no_task old.streams standard.Output (get_or old.guests n None) new)
-new_task old n reads lt new standard.Error m = told_same (task_of old.streams standard.Error) old.guests n m (Some (new_guest reads)) lt (no_task old.streams standard.Error (get_or old.guests n None) new)
-
-set_stdout : (streams : Streams) (to : Output) (o : Option Guest) → is_some o ≡ true → task_of streams standard.Output (option_map (configured (setting.Stdout to)) o) ≡ output_has_task (writes_behind_in streams) to
-set_stdout streams to None there = absurd (cc)
-set_stdout streams to (Some guest) there = refl
-
-set_stderr : (streams : Streams) (to : Output) (o : Option Guest) → is_some o ≡ true → task_of streams standard.Error (option_map (configured (setting.Stderr to)) o) ≡ output_has_task (writes_behind_in streams) to
-set_stderr streams to None there = absurd (cc)
-set_stderr streams to (Some guest) there = refl
-
-set_other : (streams : Streams) (it : Setting) (stream : Standard) → ((guest : Guest) → task_of streams stream (Some guest) ≡ task_of streams stream (Some (configured it guest))) → (o : Option Guest) → task_of streams stream o ≡ task_of streams stream (option_map (configured it) o)
-set_other streams it stream same None = refl
-set_other streams it stream same (Some guest) = same guest
-
-module _ (old : Host) (n : ℕ) (lt : n < length old.guests) (there : is_some (get_or old.guests n None) ≡ true) where
-  abbrev set_guest : Setting → Option Guest
-  set_guest it = option_map (configured it) (get_or old.guests n None)
-
-  kept_task : (it : Setting) (stream : Standard) → ((guest : Guest) → task_of old.streams stream (Some guest) ≡ task_of old.streams stream (Some (configured it guest))) → (m : ℕ) → task_of old.streams stream (get_or (set old.guests n (set_guest it)) m None) ≡ (names_of old).has_task stream m
-  kept_task it stream same m = told_same (task_of old.streams stream) old.guests n m (set_guest it) lt (set_other old.streams it stream same (get_or old.guests n None))
-
-  configured_task : (it : Setting) (stream : Standard) (m : ℕ) → task_of old.streams stream (get_or (set old.guests n (set_guest it)) m None) ≡ tasks_after (names_of old) n it stream m
-  configured_task (setting.Stdout to) standard.Input m = kept_task (setting.Stdout to) standard.Input (λ guest. refl) m
-  configured_task (setting.Stdout to) standard.Output m = told_at (task_of old.streams standard.Output) old.guests n m (set_guest (setting.Stdout to)) lt ∙ ap (λ b. cond (nat_eq m n) b (task_of old.streams standard.Output (get_or old.guests m None))) (set_stdout old.streams to (get_or old.guests n None) there)
-  configured_task (setting.Stdout to) standard.Error m = kept_task (setting.Stdout to) standard.Error (λ guest. refl) m
-  configured_task (setting.Stderr to) standard.Input m = kept_task (setting.Stderr to) standard.Input (λ guest. refl) m
-  configured_task (setting.Stderr to) standard.Output m = kept_task (setting.Stderr to) standard.Output (λ guest. refl) m
-  configured_task (setting.Stderr to) standard.Error m = told_at (task_of old.streams standard.Error) old.guests n m (set_guest (setting.Stderr to)) lt ∙ ap (λ b. cond (nat_eq m n) b (task_of old.streams standard.Error (get_or old.guests m None))) (set_stderr old.streams to (get_or old.guests n None) there)
-  configured_task (setting.Capacity capacity) standard.Input m = kept_task (setting.Capacity capacity) standard.Input (λ guest. refl) m
-  configured_task (setting.Capacity capacity) standard.Output m = kept_task (setting.Capacity capacity) standard.Output (λ guest. refl) m
-  configured_task (setting.Capacity capacity) standard.Error m = kept_task (setting.Capacity capacity) standard.Error (λ guest. refl) m
-
 -- what a step declares, and whose call it is
 pub names_step : (step : Line) (old : Host) (g : Given) → length old.guests ≡ 64 → GuestsStand old → may_stand (names_of old) step ≡ true → names_of (host_after step old g) ≡ names_after (names_of old) step
 names_step (line.Input name it) old g len guests h =
     let new = is_new _ _ _ h in
     λ i. record (names_of old) {
-      has_task = λ stream m. input_tasks old name (new_input it) stream (guest_of old m) (guests m) i;
       inputs = more_names old.streams.inputs name (new_input it) i;
       reads_ahead = λ other. readers_more old.streams.inputs name it new.0 other i;
     }
 names_step (line.Output name it) old g len guests h =
     let new = is_new _ _ _ (first_is (may_declare (names_of old) name) (budget_stands it) h) in
     λ i. record (names_of old) {
-      has_task = λ stream m. output_tasks old name (new_output it) stream (guest_of old m) (guests m) i;
       outputs = more_names old.streams.outputs name (new_output it) i;
       writes_behind = λ other. writers_more old.streams.outputs name it new.1 other i;
     }
@@ -235,7 +222,6 @@ names_step (line.Guest n reads) old g len guests h =
     λ i. record (names_of old) {
       is_guest = λ m. told_at is_some old.guests n m (Some (new_guest reads)) lt i;
       was_called = λ m. told_same was_called_in old.guests n m (Some (new_guest reads)) lt (none_called (get_or old.guests n None) new) i;
-      has_task = λ stream m. new_task old n reads lt new stream m i;
     }
 names_step (line.Configure n it) old g len guests h =
     let there : is_some (guest_of old n) ≡ true = first_of _ _ (first_of _ (setting_stands (names_of old) it) h) in
@@ -244,20 +230,15 @@ names_step (line.Configure n it) old g len guests h =
     λ i. record (names_of old) {
       is_guest = λ m. told_same is_some old.guests n m changed lt (changed_some (configured it) (get_or old.guests n None)) i;
       was_called = λ m. told_same was_called_in old.guests n m changed lt (changed_called it (get_or old.guests n None)) i;
-      has_task = λ stream m. configured_task old n lt there it stream m i;
     }
-names_step (line.Call n c) old g len guests h' =
-    let h : is_some (guest_of old n) ≡ true = first_of _ (call_stands (names_of old) n c) h' in
+names_step (line.Call n c) old g len guests h =
     let lt : n < length old.guests = within old.guests n h in
     let guest : Guest = (answer the_rules c n old).guest in
     let names = answered_names the_rules c n (guest_of old n) old.shared old.streams in
     let kinds = call_kinds c n (guest_of old n) old.shared old.streams in
-    let streams : Streams = (answer the_rules c n old).streams in
     λ i. record {
       is_guest = λ m. told_same is_some old.guests n m (Some guest) lt h i;
       was_called = λ m. (told_at was_called_in old.guests n m (Some guest) lt ∙ ap (λ b. cond (nat_eq m n) b (was_called_in (get_or old.guests m None))) (called_now the_rules c n (guest_of old n) old.shared old.streams h)) i;
-      has_task = λ stream m. (kinds_tasks streams old.streams kinds stream (get_or (set old.guests n (Some guest)) m None)
-          ∙ told_same (task_of old.streams stream) old.guests n m (Some guest) lt (sym (called_task old.streams old.streams stream c n (guest_of old n) old.shared h))) i;
       inputs = names.inputs i;
       outputs = names.outputs i;
       reads_ahead = λ name. kinds.reads name i;
@@ -268,7 +249,6 @@ names_step (line.Turn it) old g len guests h =
     let names = task_names the_rules it old.streams in
     let kinds = turn_kinds it old.streams in
     λ i. record (names_of old) {
-      has_task = λ stream m. kinds_tasks (after_task the_rules it old.streams) old.streams kinds stream (guest_of old m) i;
       inputs = names.inputs i;
       outputs = names.outputs i;
       reads_ahead = λ name. kinds.reads name i;
@@ -299,7 +279,7 @@ guests_after (line.Configure n it) old g len guests h m =
     put_stands (names_after names (line.Configure n it)) old.guests n (option_map (configured it) (guest_of old n)) (within old.guests n there) (λ m. stand_after names (line.Configure n it) (guest_of old m) (guests m)) (configured_stands names (line.Configure n it) it (guest_of old n) (second_of _ (setting_stands names it) h) (guests n)) m
 guests_after (line.Call n c) old g len guests h m =
     let names = names_of old in
-    let there : is_some (guest_of old n) ≡ true = first_of _ (call_stands names n c) h in
+    let there : is_some (guest_of old n) ≡ true = h in
     put_stands (names_after names (line.Call n c)) old.guests n (Some (answer the_rules c n old).guest) (within old.guests n there) (λ m. stand_after names (line.Call n c) (guest_of old m) (guests m)) (called_stands (names_after names (line.Call n c)) the_rules c n (guest_of old n) old.shared old.streams there (stand_after names (line.Call n c) (guest_of old n) (guests n))) m
 guests_after step old g len guests h m = stand_after (names_of old) step (guest_of old m) (guests m)
 
@@ -313,7 +293,7 @@ none_at f none (suc count) zero = none
 none_at f none (suc count) (suc n) = none_at f none count n
 
 pub names_new : names_of new_host ≡ no_names
-names_new = λ i. record (names_of new_host) { is_guest = λ n. none_at is_some refl 64 n i; was_called = λ n. none_at was_called_in refl 64 n i; has_task = λ stream n. none_at (task_of new_host.streams stream) refl 64 n i }
+names_new = λ i. record (names_of new_host) { is_guest = λ n. none_at is_some refl 64 n i; was_called = λ n. none_at was_called_in refl 64 n i }
 
 pub guests_new : GuestsStand new_host
 guests_new = none_stand (names_of new_host) 64

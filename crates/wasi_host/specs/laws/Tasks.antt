@@ -1,4 +1,4 @@
--- Which streams have a task: no step changes that of a declared stream, so what is known of a guest's streams stays true.
+-- Which streams have a task: no step changes that of a declared stream.
 use Rattle.std.proofs.Common.{◌≡◌, ℕ, Bool, true, false, cond, List, [], ◌∷◌, ◌++◌, Option, Some, None, refl, ap, sym, ◌∙◌, true≢false}
 use Rattle.std.specs.Prelude.{is_some, unwrap_or, nat_eq, ◌||◌}
 use Rattle.std.specs.Map.{lookup}
@@ -26,7 +26,7 @@ use Rattle.wasi_script.specs.declared.lines.StreamTask.{StreamTask}
 use Rattle.wasi_script.specs.declared.lines.StreamTask.TheVariants as task
 use Rattle.wasi_script.specs.declared.lines.Line.{Line}
 use Rattle.wasi_script.specs.declared.lines.Line.TheVariants as line
-use Rattle.wasi_script.specs.Grammar.{Names, names_after, is_among, is_read_ahead, is_written_behind, input_has_task, output_has_task, input_stands, output_stands, setting_stands}
+use Rattle.wasi_script.specs.Grammar.{Names, names_after, is_among, is_read_ahead, is_written_behind, input_stands, output_stands, setting_stands}
 use Rattle.wasi_script.specs.laws.Rows.{among_is, absent_is, found_last, found_before}
 use Rattle.wasi_host.specs.declared.entry.Entry.{Entry}
 use Rattle.wasi_host.specs.declared.entry.Entry.TheVariants as entry
@@ -36,12 +36,16 @@ use Rattle.wasi_host.specs.declared.stream.InStream.{InStream}
 use Rattle.wasi_host.specs.declared.stream.InStream.TheVariants as in_stream
 use Rattle.wasi_host.specs.declared.stream.OutStream.{OutStream}
 use Rattle.wasi_host.specs.declared.stream.OutStream.TheVariants as out_stream
-use Rattle.wasi_host.specs.InStreams.{after_input_read, after_input_poll_read}
-use Rattle.wasi_host.specs.OutStreams.{after_output_check_write, after_output_write, after_output_flush, after_output_poll_write, after_output_poll_flush}
+use Rattle.wasi_host.specs.InStreams.{after_input_read, after_input_poll_read, after_input_block, input_without}
+use Rattle.wasi_host.specs.OutStreams.{after_output_check_write, after_output_write, after_output_flush, after_output_poll_write, after_output_poll_flush, after_output_block, output_without}
 use Rattle.wasi_host.specs.Tasks.{input_turned, output_turned}
 use Rattle.wasi_host.specs.Deeds.{entry_at}
-use Rattle.wasi_host.specs.Calls.{Owner, called, sent}
-use Rattle.wasi_host.specs.Host.{Named, Guest, Streams, Host, Rules, the_rules, new_guest, configured, new_input, new_output, taken_out, put_back, input_at, put_input, output_at, put_output, answer_at, answer_to, answer_by, answer_in, after_task, guest_of, is_reader, is_writer, reads_ahead_in, writes_behind_in, task_of, names_in, names_of}
+use Rattle.wasi_host.specs.Calls.{Owner, Settings, called, sent, polled_read, polled_write, polled_flush}
+use Rattle.wasi_cli.specs.declared.stdout_handle.StdoutHandle.{StdoutHandle}
+use Rattle.wasi_host.specs.declared.leaver.Leaver.{Leaver}
+use Rattle.wasi_host.specs.declared.leaver.Leaver.TheVariants as leaver
+use Rattle.wasi_reply.specs.Reply.{ends}
+use Rattle.wasi_host.specs.Host.{Named, Guest, Streams, Host, Rules, the_rules, new_guest, configured, new_input, new_output, taken_out, put_back, input_at, put_input, output_at, put_output, answer_at, answer_to, answer_by, answer_in, after_task, guest_of, is_reader, is_writer, reads_ahead_in, writes_behind_in, leave_input, leave_output, leave_entry, leave_all, names_in, names_of}
 
 -- ---- a call or a turn leaves a stream of its kind
 read_kind : (size : ℕ) (s : InStream) → is_reader (Some (after_input_read s size)) ≡ is_reader (Some s)
@@ -50,19 +54,32 @@ read_kind size (in_stream.Pipe left) = refl
 read_kind size (in_stream.File told) = refl
 read_kind size (in_stream.Async reader) = refl
 
-poll_read_kind : (room : ℕ) (s : InStream) → is_reader (Some (after_input_poll_read s room)) ≡ is_reader (Some s)
-poll_read_kind room in_stream.Closed = refl
-poll_read_kind room (in_stream.Pipe left) = refl
-poll_read_kind room (in_stream.File told) = refl
-poll_read_kind room (in_stream.Async reader) = refl
+polled_read_kind : (at : Owner) (handle : StdoutHandle) (room : ℕ) (s : InStream) → is_reader (Some (polled_read at handle s room).left) ≡ is_reader (Some s)
+polled_read_kind at handle room (in_stream.Async it) = refl
+polled_read_kind at handle room in_stream.Closed = refl
+polled_read_kind at handle room (in_stream.Pipe left) = refl
+polled_read_kind at handle room (in_stream.File told) = refl
+
+block_kind : (at : Owner) (s : InStream) → is_reader (Some (after_input_block s at)) ≡ is_reader (Some s)
+block_kind at in_stream.Closed = refl
+block_kind at (in_stream.Pipe left) = refl
+block_kind at (in_stream.File told) = refl
+block_kind at (in_stream.Async it) = refl
+
+without_kind : (who : Leaver) (s : InStream) → is_reader (Some (input_without who s)) ≡ is_reader (Some s)
+without_kind who in_stream.Closed = refl
+without_kind who (in_stream.Pipe left) = refl
+without_kind who (in_stream.File told) = refl
+without_kind who (in_stream.Async it) = refl
 
 called_kind : (it : EntryCall) (at : Owner) (e : StreamEntry) (s : InStream) → is_reader (Some (called it at e s).left) ≡ is_reader (Some s)
 called_kind (ask.Read size) at on.Plain s = read_kind size s
 called_kind (ask.Skip size) at on.Plain s = read_kind size s
-called_kind (ask.PollRead room) at on.Polled s = poll_read_kind room s
+called_kind (ask.PollRead room) at (on.Polled handle) s = polled_read_kind at handle room s
 called_kind ask.Ready at on.Pollable s = refl
+called_kind ask.Block at on.Pollable s = block_kind at s
 called_kind other at on.Plain s = refl
-called_kind other at on.Polled s = refl
+called_kind other at (on.Polled handle) s = refl
 called_kind other at on.Pollable s = refl
 
 read_ahead_kind : (s : InStream) → is_reader (Some (input_turned s).left) ≡ is_reader (Some s)
@@ -96,27 +113,48 @@ flush_sort (out_stream.Stdio out) = refl
 flush_sort (out_stream.Buffered writer) = refl
 flush_sort other = refl
 
-poll_write_sort : (piece : List ℕ) (s : OutStream) → sort_of (after_output_poll_write s piece) ≡ sort_of s
-poll_write_sort piece (out_stream.Pipe pipe) = refl
-poll_write_sort piece (out_stream.File out) = refl
-poll_write_sort piece (out_stream.Stdio out) = refl
-poll_write_sort piece other = refl
+polled_write_sort : (to : Standard) (at : Owner) (handle : StdoutHandle) (piece : List ℕ) (s : OutStream) → sort_of (polled_write to at handle s piece).left ≡ sort_of s
+polled_write_sort to at handle piece (out_stream.Buffered it) = refl
+polled_write_sort to at handle piece (out_stream.Pipe pipe) = refl
+polled_write_sort to at handle piece (out_stream.File out) = refl
+polled_write_sort to at handle piece (out_stream.Stdio out) = refl
+polled_write_sort to at handle piece out_stream.Closed = refl
+polled_write_sort to at handle piece out_stream.Sink = refl
 
-poll_flush_sort : (s : OutStream) → sort_of (after_output_poll_flush s) ≡ sort_of s
-poll_flush_sort (out_stream.File out) = refl
-poll_flush_sort (out_stream.Stdio out) = refl
-poll_flush_sort (out_stream.Buffered writer) = refl
-poll_flush_sort other = refl
+polled_flush_sort : (to : Standard) (at : Owner) (handle : StdoutHandle) (s : OutStream) → sort_of (polled_flush to at handle s).left ≡ sort_of s
+polled_flush_sort to at handle (out_stream.Buffered it) = refl
+polled_flush_sort to at handle (out_stream.Pipe pipe) = refl
+polled_flush_sort to at handle (out_stream.File out) = refl
+polled_flush_sort to at handle (out_stream.Stdio out) = refl
+polled_flush_sort to at handle out_stream.Closed = refl
+polled_flush_sort to at handle out_stream.Sink = refl
+
+block_sort : (at : Owner) (s : OutStream) → sort_of (after_output_block s at) ≡ sort_of s
+block_sort at (out_stream.Buffered it) = refl
+block_sort at (out_stream.Pipe pipe) = refl
+block_sort at (out_stream.File out) = refl
+block_sort at (out_stream.Stdio out) = refl
+block_sort at out_stream.Closed = refl
+block_sort at out_stream.Sink = refl
+
+pub without_sort : (who : Leaver) (s : OutStream) → sort_of (output_without who s) ≡ sort_of s
+without_sort who (out_stream.Buffered it) = refl
+without_sort who (out_stream.Pipe pipe) = refl
+without_sort who (out_stream.File out) = refl
+without_sort who (out_stream.Stdio out) = refl
+without_sort who out_stream.Closed = refl
+without_sort who out_stream.Sink = refl
 
 pub sent_sort : (it : EntryCall) (to : Standard) (at : Owner) (e : StreamEntry) (s : OutStream) → sort_of (sent it to at e s).left ≡ sort_of s
 sent_sort ask.CheckWrite to at on.Plain s = check_sort s
 sent_sort (ask.Write bytes) to at on.Plain s = write_sort bytes s
 sent_sort ask.Flush to at on.Plain s = flush_sort s
-sent_sort (ask.PollWrite piece) to at on.Polled s = poll_write_sort piece s
-sent_sort ask.PollFlush to at on.Polled s = poll_flush_sort s
+sent_sort (ask.PollWrite piece) to at (on.Polled handle) s = polled_write_sort to at handle piece s
+sent_sort ask.PollFlush to at (on.Polled handle) s = polled_flush_sort to at handle s
 sent_sort ask.Ready to at on.Pollable s = refl
+sent_sort ask.Block to at on.Pollable s = block_sort at s
 sent_sort other to at on.Plain s = refl
-sent_sort other to at on.Polled s = refl
+sent_sort other to at (on.Polled handle) s = refl
 sent_sort other to at on.Pollable s = refl
 
 pub turned_sort : (s : OutStream) → sort_of (output_turned s).left ≡ sort_of s
@@ -169,6 +207,30 @@ output_kinds : (to : Output) (left : OutStream → OutStream) → ((s : OutStrea
 output_kinds (output.Named n) left keeps streams = record { reads = λ name. refl; writes = λ name. kinds_put is_writer out_stream.Closed left keeps n name streams.outputs }
 output_kinds other left keeps streams = record { reads = λ name. refl; writes = λ name. refl }
 
+trans_kinds : (three two one : Streams) → SameKinds three two → SameKinds two one → SameKinds three one
+trans_kinds three two one b a = record { reads = λ name. b.reads name ∙ a.reads name; writes = λ name. b.writes name ∙ a.writes name }
+
+-- who leaves a stream leaves it of its kind
+leave_input_kinds : (who : Leaver) (from : Input) (streams : Streams) → SameKinds (leave_input who from streams) streams
+leave_input_kinds who from streams = input_kinds from (input_without who) (without_kind who) streams
+
+leave_output_kinds : (who : Leaver) (to : Output) (streams : Streams) → SameKinds (leave_output who to streams) streams
+leave_output_kinds who to streams = output_kinds to (output_without who) (λ s. same_sort (output_without who s) s (without_sort who s)) streams
+
+entry_kinds : (who : Leaver) (o : Option Entry) (settings : Settings) (streams : Streams) → SameKinds (leave_entry who o settings streams) streams
+entry_kinds who None settings streams = record { reads = λ name. refl; writes = λ name. refl }
+entry_kinds who (Some (entry.Shared e)) settings streams = record { reads = λ name. refl; writes = λ name. refl }
+entry_kinds who (Some (entry.Stream standard.Input e)) settings streams = leave_input_kinds who settings.input streams
+entry_kinds who (Some (entry.Stream standard.Output e)) settings streams = leave_output_kinds who settings.stdout streams
+entry_kinds who (Some (entry.Stream standard.Error e)) settings streams = leave_output_kinds who settings.stderr streams
+
+left_kinds : (b : Bool) (who : Leaver) (settings : Settings) (streams : Streams) → SameKinds (cond b (leave_all who settings streams) streams) streams
+left_kinds true who settings streams =
+    let one = leave_input who settings.input streams in
+    let two = leave_output who settings.stdout one in
+    trans_kinds (leave_output who settings.stderr two) two streams (leave_output_kinds who settings.stderr two) (trans_kinds two one streams (leave_output_kinds who settings.stdout one) (leave_input_kinds who settings.input streams))
+left_kinds false who settings streams = record { reads = λ name. refl; writes = λ name. refl }
+
 at_kinds : (it : EntryCall) (at : Owner) (o : Option Entry) (guest : Guest) (s : Shared) (streams : Streams) → SameKinds (answer_at the_rules it at o guest s streams).streams streams
 at_kinds it at None guest s streams = record { reads = λ name. refl; writes = λ name. refl }
 at_kinds it at (Some (entry.Shared e)) guest s streams = record { reads = λ name. refl; writes = λ name. refl }
@@ -178,11 +240,12 @@ at_kinds it at (Some (entry.Stream standard.Error e)) guest s streams = output_k
 
 to_kinds : (c : Call) (g : ℕ) (guest : Guest) (s : Shared) (streams : Streams) → SameKinds (answer_to the_rules c g guest s streams).streams streams
 to_kinds (call.On n it) g guest s streams = at_kinds it (record { guest = g; number = n }) (entry_at guest.own n) guest s streams
+to_kinds (call.Drop n) g guest s streams = entry_kinds (leaver.Entry (record { guest = g; number = n })) (entry_at guest.own n) guest.settings streams
 to_kinds other g guest s streams = record { reads = λ name. refl; writes = λ name. refl }
 
 by_kinds : (b : Bool) (c : Call) (g : ℕ) (guest : Guest) (s : Shared) (streams : Streams) → SameKinds (answer_by b the_rules c g guest s streams).streams streams
 by_kinds true c g guest s streams = record { reads = λ name. refl; writes = λ name. refl }
-by_kinds false c g guest s streams = to_kinds c g guest s streams
+by_kinds false c g guest s streams = let done = answer_to the_rules c g guest s streams in trans_kinds _ done.streams streams (left_kinds (ends done.reply) (leaver.Guest g) guest.settings done.streams) (to_kinds c g guest s streams)
 
 pub call_kinds : (c : Call) (g : ℕ) (o : Option Guest) (s : Shared) (streams : Streams) → SameKinds (answer_in the_rules c g o s streams).streams streams
 call_kinds c g None s streams = record { reads = λ name. refl; writes = λ name. refl }
@@ -209,28 +272,6 @@ to_settings rules (call.Own it) g guest s streams = refl
 pub call_settings : (rules : Rules) (b : Bool) (c : Call) (g : ℕ) (guest : Guest) (s : Shared) (streams : Streams) → (answer_by b rules c g guest s streams).guest.settings ≡ guest.settings
 call_settings rules true c g guest s streams = refl
 call_settings rules false c g guest s streams = to_settings rules c g guest s streams
-
--- ---- whether a guest's streams have a task
-same_input : (one two : List ℕ → Bool) (it : Input) → ((name : List ℕ) → one name ≡ two name) → input_has_task one it ≡ input_has_task two it
-same_input one two (input.Named name) same = same name
-same_input one two other same = refl
-
-same_output : (one two : List ℕ → Bool) (it : Output) → ((name : List ℕ) → one name ≡ two name) → output_has_task one it ≡ output_has_task two it
-same_output one two (output.Named name) same = same name
-same_output one two other same = refl
-
-pub kinds_tasks : (after before : Streams) → SameKinds after before → (stream : Standard) (o : Option Guest) → task_of after stream o ≡ task_of before stream o
-kinds_tasks after before same stream None = refl
-kinds_tasks after before same standard.Input (Some guest) = same_input (reads_ahead_in after) (reads_ahead_in before) guest.settings.input same.reads
-kinds_tasks after before same standard.Output (Some guest) = same_output (writes_behind_in after) (writes_behind_in before) guest.settings.stdout same.writes
-kinds_tasks after before same standard.Error (Some guest) = same_output (writes_behind_in after) (writes_behind_in before) guest.settings.stderr same.writes
-
--- a call of a guest
-pub called_task : (streams streams' : Streams) (stream : Standard) (c : Call) (g : ℕ) (o : Option Guest) (s : Shared) → is_some o ≡ true → task_of streams stream (Some (answer_in the_rules c g o s streams').guest) ≡ task_of streams stream o
-called_task streams streams' stream c g None s there = absurd (true≢false (sym there))
-called_task streams streams' standard.Input c g (Some guest) s there = ap (λ settings. input_has_task (reads_ahead_in streams) settings.input) (call_settings the_rules guest.ended c g guest s streams')
-called_task streams streams' standard.Output c g (Some guest) s there = ap (λ settings. output_has_task (writes_behind_in streams) settings.stdout) (call_settings the_rules guest.ended c g guest s streams')
-called_task streams streams' standard.Error c g (Some guest) s there = ap (λ settings. output_has_task (writes_behind_in streams) settings.stderr) (call_settings the_rules guest.ended c g guest s streams')
 
 -- ---- what guests name is declared
 pub record NamesStand (names : Names) (guest : Guest) : Type 0 where
@@ -299,27 +340,6 @@ module _ (names : Names) (step : Line) where
   configured_stands (setting.Capacity capacity) (Some guest) is stand =
       let all = guest_grown names (names_after names step) (step_grows names step) guest stand in
       record { reads = all.reads; writes = all.writes; tells = all.tells }
-
--- ---- a new name: the streams that guests name are found as before
-input_still : (host : Host) (name : List ℕ) (it : InStream) (from : Input) → input_stands (names_of host) from ≡ true → input_has_task (λ other. is_reader (lookup (bytes_eq other) (host.streams.inputs ++ (name, it) ∷ []))) from ≡ input_has_task (reads_ahead_in host.streams) from
-input_still host name it (input.Named n) stands = ap is_reader (found_before host.streams.inputs name it n (sym (among_is n host.streams.inputs) ∙ stands))
-input_still host name it other stands = refl
-
-output_still : (host : Host) (name : List ℕ) (it : OutStream) (to : Output) → output_stands (names_of host) to ≡ true → output_has_task (λ other. is_writer (lookup (bytes_eq other) (host.streams.outputs ++ (name, it) ∷ []))) to ≡ output_has_task (writes_behind_in host.streams) to
-output_still host name it (output.Named n) stands = ap is_writer (found_before host.streams.outputs name it n (sym (among_is n host.streams.outputs) ∙ stands))
-output_still host name it other stands = refl
-
-pub input_tasks : (host : Host) (name : List ℕ) (it : InStream) (stream : Standard) (o : Option Guest) → GuestStands (names_of host) o → task_of (record { inputs = host.streams.inputs ++ (name, it) ∷ []; outputs = host.streams.outputs }) stream o ≡ task_of host.streams stream o
-input_tasks host name it stream None stand = refl
-input_tasks host name it standard.Input (Some guest) stand = input_still host name it guest.settings.input stand.reads
-input_tasks host name it standard.Output (Some guest) stand = refl
-input_tasks host name it standard.Error (Some guest) stand = refl
-
-pub output_tasks : (host : Host) (name : List ℕ) (it : OutStream) (stream : Standard) (o : Option Guest) → GuestStands (names_of host) o → task_of (record { inputs = host.streams.inputs; outputs = host.streams.outputs ++ (name, it) ∷ [] }) stream o ≡ task_of host.streams stream o
-output_tasks host name it stream None stand = refl
-output_tasks host name it standard.Input (Some guest) stand = refl
-output_tasks host name it standard.Output (Some guest) stand = output_still host name it guest.settings.stdout stand.writes
-output_tasks host name it standard.Error (Some guest) stand = output_still host name it guest.settings.stderr stand.tells
 
 -- .. and it has a task where its line says so
 kind_of_new : {A : Type 0} (kind : Option A → Bool) (it : A) (is b : Bool) (o : Option A) → kind (Some it) ≡ is → kind (cond b (Some it) o) ≡ cond b is (kind o)

@@ -8,6 +8,7 @@ use Rattle.std.specs.Str.{bytes_eq}
 use Rattle.std.proofs.lemmas.Slice.Eq.{bytes_eq-Decides}
 use Rattle.wasi_base.specs.Source.{Given}
 use Rattle.wasi_stdin.specs.Shared.{Shared}
+use Rattle.wasi_script.specs.declared.lines.Input.{Input}
 use Rattle.wasi_script.specs.declared.lines.Output.{Output}
 use Rattle.wasi_script.specs.declared.lines.Output.TheVariants as output
 use Rattle.wasi_script.specs.declared.lines.OutputDeclaration.{OutputDeclaration}
@@ -26,10 +27,15 @@ use Rattle.wasi_host.specs.declared.entry.Entry.TheVariants as entry
 use Rattle.wasi_host.specs.declared.entry.StreamEntry.{StreamEntry}
 use Rattle.wasi_host.specs.declared.stream.OutStream.{OutStream}
 use Rattle.wasi_host.specs.declared.stream.OutStream.TheVariants as stream
-use Rattle.wasi_host.specs.Deeds.{Own, entry_at, act, apart}
+use Rattle.wasi_reply.specs.Reply.{ends}
+use Rattle.wasi_host.specs.declared.leaver.Leaver.{Leaver}
+use Rattle.wasi_host.specs.declared.leaver.Leaver.TheVariants as leaver
+use Rattle.wasi_host.specs.InStreams.{input_without}
+use Rattle.wasi_host.specs.OutStreams.{output_without}
+use Rattle.wasi_host.specs.Deeds.{Own, entry_at, act, apart, dropped}
 use Rattle.wasi_host.specs.Tasks.{output_turned}
-use Rattle.wasi_host.specs.Calls.{Owner, sent, called}
-use Rattle.wasi_host.specs.Host.{Named, the_rules, Guest, Streams, Host, new_output, taken_out, put_back, output_at, put_output, input_at, answer_at, answer_to, answer_by, answer_in, guest_of, reply_to, host_after}
+use Rattle.wasi_host.specs.Calls.{Owner, Settings, sent, called}
+use Rattle.wasi_host.specs.Host.{Named, the_rules, Guest, Streams, Host, new_output, taken_out, put_back, output_at, put_output, input_at, leave_input, leave_output, leave_entry, leave_all, answer_at, answer_to, answer_by, answer_in, guest_of, reply_to, host_after}
 use Rattle.wasi_host.specs.View.{output_names}
 use Rattle.wasi_host.specs.Promises.{entry_call_on, guest_call_on, step_call_on}
 use Rattle.wasi_host.specs.laws.Reach.{found_still, input_apart}
@@ -57,8 +63,9 @@ told_by it which at e own s = (act (apart (sent it which at e s).deed) own).repl
 pub record HoldsOfEach (R : Change) : Type 0 where
   pub keeps : (answer : Reply) (o : Option OutStream) → R None answer o o
   pub declares : (it : OutputDeclaration) (answer : Reply) → R None answer None (Some (new_output it))
-  pub sends : (it : EntryCall) (which : Standard) (at : Owner) (e : StreamEntry) (own : Own) (s : OutStream) → R (Some (it, e)) (told_by it which at e own s) (Some s) (Some (left_by it which at e s))
+  pub sends : (it : EntryCall) (which : Standard) (at : Owner) (e : StreamEntry) (own : Own) (s : OutStream) → entry_at own at.number ≡ Some (entry.Stream which e) → R (Some (it, e)) (told_by it which at e own s) (Some s) (Some (left_by it which at e s))
   pub misses : (it : EntryCall) (which : Standard) (at : Owner) (e : StreamEntry) (own : Own) → R (Some (it, e)) (told_by it which at e own stream.Closed) None None
+  pub leaves : (on : Option (EntryCall × StreamEntry)) (answer : Reply) (before : Option OutStream) (who : Leaver) (s : OutStream) → R on answer before (Some s) → R on answer before (Some (output_without who s))
   pub turns : (s : OutStream) → R None (reply.Worked (output_turned s).told) (Some s) (Some (output_turned s).left)
 
 module _ (R : Change) (holds : HoldsOfEach R) (name : List ℕ) where
@@ -100,29 +107,70 @@ module _ (R : Change) (holds : HoldsOfEach R) (name : List ℕ) where
       let s = taken_out stream.Closed n outputs in
       same (told s) outputs (put_back n (left s) outputs) (found_still n name outputs (left s) is)
 
+  -- who leaves
+  module _ (on : Option (EntryCall × StreamEntry)) (answer : Reply) (before : Named OutStream) (who : Leaver) where
+    abbrev So : Option OutStream → Type 0
+    So after = R on answer (lookup (bytes_eq name) before) after
+
+    left : (o : Option OutStream) → So o → So (option_map (λ old. output_without who (unwrap_or o stream.Closed)) o)
+    left None h = h
+    left (Some s) h = holds.leaves on answer (lookup (bytes_eq name) before) who s h
+
+    leaves_named : (n : List ℕ) (outputs : Named OutStream) (b : Bool) → bytes_eq n name ≡ b → So (lookup (bytes_eq name) outputs) → So (lookup (bytes_eq name) (put_back n (output_without who (taken_out stream.Closed n outputs)) outputs))
+    leaves_named n outputs true is h =
+        let it = output_without who (taken_out stream.Closed n outputs) in
+        let same_name : n ≡ name = (bytes_eq-Decides n name).0 is in
+        let there : So (lookup (bytes_eq n) outputs) = subst (λ (m : List ℕ). So (lookup (bytes_eq m) outputs)) (sym same_name) h in
+        let here : So (lookup (bytes_eq n) (put_back n it outputs)) = subst So (sym (set_found (bytes_eq n) outputs it)) (left (lookup (bytes_eq n) outputs) there) in
+        subst (λ (m : List ℕ). So (lookup (bytes_eq m) (put_back n it outputs))) same_name here
+    leaves_named n outputs false is h = subst So (sym (found_still n name outputs (output_without who (taken_out stream.Closed n outputs)) is)) h
+
+    leaves_output : (to : Output) (streams : Streams) → So (lookup (bytes_eq name) streams.outputs) → So (lookup (bytes_eq name) (leave_output who to streams).outputs)
+    leaves_output (output.Named n) streams h = leaves_named n streams.outputs (bytes_eq n name) refl h
+    leaves_output output.Closed streams h = h
+    leaves_output output.Empty streams h = h
+    leaves_output output.Sink streams h = h
+
+    leaves_input : (from : Input) (streams : Streams) → So (lookup (bytes_eq name) streams.outputs) → So (lookup (bytes_eq name) (leave_input who from streams).outputs)
+    leaves_input from streams h = subst (λ outputs. So (lookup (bytes_eq name) outputs)) (sym (input_apart from (input_without who (input_at from streams)) streams)) h
+
+    leaves_entry : (o : Option Entry) (settings : Settings) (streams : Streams) → So (lookup (bytes_eq name) streams.outputs) → So (lookup (bytes_eq name) (leave_entry who o settings streams).outputs)
+    leaves_entry None settings streams h = h
+    leaves_entry (Some (entry.Shared e)) settings streams h = h
+    leaves_entry (Some (entry.Stream standard.Input e)) settings streams h = leaves_input settings.input streams h
+    leaves_entry (Some (entry.Stream standard.Output e)) settings streams h = leaves_output settings.stdout streams h
+    leaves_entry (Some (entry.Stream standard.Error e)) settings streams h = leaves_output settings.stderr streams h
+
+  leaves_all : (b : Bool) (on : Option (EntryCall × StreamEntry)) (answer : Reply) (before : Named OutStream) (who : Leaver) (settings : Settings) (streams : Streams) → Holds on answer before streams.outputs → Holds on answer before (cond b (leave_all who settings streams) streams).outputs
+  leaves_all true on answer before who settings streams h =
+      let one = leave_input who settings.input streams in
+      let two = leave_output who settings.stdout one in
+      leaves_output on answer before who settings.stderr two (leaves_output on answer before who settings.stdout one (leaves_input on answer before who settings.input streams h))
+  leaves_all false on answer before who settings streams h = h
+
   -- ---- each call
-  module _ (it : EntryCall) (which : Standard) (at : Owner) (e : StreamEntry) (own : Own) where
+  module _ (it : EntryCall) (which : Standard) (at : Owner) (e : StreamEntry) (own : Own) (held : entry_at own at.number ≡ Some (entry.Stream which e)) where
     to_sends : (to : Output) (streams : Streams) → let s = output_at to streams in Holds (cond (output_names to name) (Some (it, e)) None) (told_by it which at e own s) streams.outputs (put_output to (left_by it which at e s) streams).outputs
-    to_sends (output.Named n) streams = put (Some (it, e)) (told_by it which at e own) (left_by it which at e) (holds.sends it which at e own) (holds.misses it which at e own) n streams.outputs (bytes_eq n name) refl
+    to_sends (output.Named n) streams = put (Some (it, e)) (told_by it which at e own) (left_by it which at e) (λ s. holds.sends it which at e own s held) (holds.misses it which at e own) n streams.outputs (bytes_eq n name) refl
     to_sends output.Closed streams = kept (told_by it which at e own stream.Closed) streams.outputs
     to_sends output.Empty streams = kept (told_by it which at e own stream.Sink) streams.outputs
     to_sends output.Sink streams = kept (told_by it which at e own stream.Sink) streams.outputs
 
-  at_call : (it : EntryCall) (at : Owner) (o : Option Entry) (guest : Guest) (s : Shared) (streams : Streams) → let done = answer_at the_rules it at o guest s streams in Holds (entry_call_on name it o guest.settings) done.reply streams.outputs done.streams.outputs
-  at_call it at None guest s streams = kept _ streams.outputs
-  at_call it at (Some (entry.Shared e)) guest s streams = kept _ streams.outputs
-  at_call it at (Some (entry.Stream standard.Input e)) guest s streams =
+  at_call : (it : EntryCall) (at : Owner) (o : Option Entry) (guest : Guest) (s : Shared) (streams : Streams) → entry_at guest.own at.number ≡ o → let done = answer_at the_rules it at o guest s streams in Holds (entry_call_on name it o guest.settings) done.reply streams.outputs done.streams.outputs
+  at_call it at None guest s streams held = kept _ streams.outputs
+  at_call it at (Some (entry.Shared e)) guest s streams held = kept _ streams.outputs
+  at_call it at (Some (entry.Stream standard.Input e)) guest s streams held =
       let done = answer_at the_rules it at (Some (entry.Stream standard.Input e)) guest s streams in
       subst (λ outputs. Holds None done.reply streams.outputs outputs) (sym (input_apart guest.settings.input (called it at e (input_at guest.settings.input streams)).left streams)) (kept done.reply streams.outputs)
-  at_call it at (Some (entry.Stream standard.Output e)) guest s streams = to_sends it standard.Output at e guest.own guest.settings.stdout streams
-  at_call it at (Some (entry.Stream standard.Error e)) guest s streams = to_sends it standard.Error at e guest.own guest.settings.stderr streams
+  at_call it at (Some (entry.Stream standard.Output e)) guest s streams held = to_sends it standard.Output at e guest.own held guest.settings.stdout streams
+  at_call it at (Some (entry.Stream standard.Error e)) guest s streams held = to_sends it standard.Error at e guest.own held guest.settings.stderr streams
 
   to_call : (c : Call) (g : ℕ) (guest : Guest) (s : Shared) (streams : Streams) → guest.ended ≡ false → let done = answer_to the_rules c g guest s streams in Holds (guest_call_on name c guest) done.reply streams.outputs done.streams.outputs
   to_call (call.On n it) g guest s streams goes_on =
       let done = answer_at the_rules it (record { guest = g; number = n }) (entry_at guest.own n) guest s streams in
-      subst (λ b. Holds (cond b None (entry_call_on name it (entry_at guest.own n) guest.settings)) done.reply streams.outputs done.streams.outputs) (sym goes_on) (at_call it (record { guest = g; number = n }) (entry_at guest.own n) guest s streams)
+      subst (λ b. Holds (cond b None (entry_call_on name it (entry_at guest.own n) guest.settings)) done.reply streams.outputs done.streams.outputs) (sym goes_on) (at_call it (record { guest = g; number = n }) (entry_at guest.own n) guest s streams refl)
   to_call (call.Open it how) g guest s streams goes_on = kept _ streams.outputs
-  to_call (call.Drop n) g guest s streams goes_on = kept _ streams.outputs
+  to_call (call.Drop n) g guest s streams goes_on = leaves_entry None (dropped n guest.own).reply streams.outputs (leaver.Entry (record { guest = g; number = n })) (entry_at guest.own n) guest.settings streams (kept _ streams.outputs)
   to_call (call.Own it) g guest s streams goes_on = kept _ streams.outputs
 
   ended_call : (c : Call) (guest : Guest) → guest.ended ≡ true → guest_call_on name c guest ≡ None
@@ -133,7 +181,7 @@ module _ (R : Change) (holds : HoldsOfEach R) (name : List ℕ) where
 
   by_call : (b : Bool) (c : Call) (g : ℕ) (guest : Guest) (s : Shared) (streams : Streams) → guest.ended ≡ b → let done = answer_by b the_rules c g guest s streams in Holds (guest_call_on name c guest) done.reply streams.outputs done.streams.outputs
   by_call true c g guest s streams e = subst (λ on. Holds on reply.Ended streams.outputs streams.outputs) (sym (ended_call c guest e)) (kept reply.Ended streams.outputs)
-  by_call false c g guest s streams e = to_call c g guest s streams e
+  by_call false c g guest s streams e = let done = answer_to the_rules c g guest s streams in leaves_all (ends done.reply) (guest_call_on name c guest) done.reply streams.outputs (leaver.Guest g) guest.settings done.streams (to_call c g guest s streams e)
 
   in_call : (c : Call) (g : ℕ) (o : Option Guest) (s : Shared) (streams : Streams) → let done = answer_in the_rules c g o s streams in Holds (option_and_then (guest_call_on name c) o) done.reply streams.outputs done.streams.outputs
   in_call c g None s streams = kept reply.Ended streams.outputs

@@ -80,9 +80,6 @@ fn a_bad_line_on_tasks_is_told_by_its_number(rt: HostRuntime) -> Result<(), Fail
         "turn in Q",
         "turn out A",
         "turn out O",
-        "call 0 async-stdin",
-        "call 0 async-stdout",
-        "call 0 async-stderr",
         "asyncin C -",
         "asyncin C - lother",
         "asyncin B - -",
@@ -99,7 +96,7 @@ fn a_bad_line_on_tasks_is_told_by_its_number(rt: HostRuntime) -> Result<(), Fail
         assert_eq!(rt; bad_line(&rt, rt.alloc(), &text)?, Some(8), "{line}");
     }
     let text = format!(in rt.alloc();
-        "{before}guest 1 P\ncall 1 async-stdin\ncall 1 async-stdout\n"
+        "{before}call 0 async-stdin\ncall 0 async-stdout\ncall 0 async-stderr\n"
     )?;
     assert_eq!(rt; bad_line(&rt, rt.alloc(), &text)?, None);
     Ok(())

@@ -1,15 +1,10 @@
-use Rattle.std.proofs.Common.{◌≡◌, ◌<◌, ◌∙◌, ◌∷◌, ◌++◌, [], ap, sym, length, get_or, true, false, arith, Bool}
+use Rattle.std.proofs.Common.{◌≡◌, ◌<◌, ◌∙◌, ◌∷◌, ◌++◌, [], ap, sym, length, get_or, true, false, arith, Bool, nat_lt}
+use Rattle.std.proofs.lemmas.Bool.Decides.{nat_tests}
 use Rattle.wasi_script.specs.Declarations.{names_in, stream_names, task_at}
-use Rattle.wasi_script.specs.Grammar.{names_after, may_set_up, may_declare, budget_stands, setting_stands, call_stands, is_read_ahead, is_written_behind, is_among}
+use Rattle.wasi_script.specs.Grammar.{names_after, may_declare, budget_stands, is_read_ahead, is_written_behind, is_among}
 use Rattle.wasi_script.specs.laws.Distinct.{first_is, is_new}
 use Rattle.wasi_script.proofs.DeclarationFacts.{set_known, flag_within, more_names, more_tasks}
 use Rattle.wasi_script.proofs.declarations.Declarations.declare.Goals as goal
-
-pub configure-requires : goal.configure-requires
-configure-requires c =
-    let set_up : may_set_up (names_in c.args.self.now) c.in-Configure.guest ≡ true = first_is _ (setting_stands (names_in c.args.self.now) c.in-Configure.setting) (rw c.in-Configure.is at c.requires) in
-    let within : c.in-Configure.guest < length c.args.self.now.declared = flag_within c.args.self.now.declared c.in-Configure.guest (first_is _ _ set_up) in
-    omega (arith, within)
 
 pub returns-in_ok-add-in-Input-clause-ok : goal.returns-in_ok-add-in-Input-clause-ok
 returns-in_ok-add-in-Input-clause-ok c =
@@ -38,11 +33,15 @@ returns-in_ok-add-in-Output-clause-ok c =
     ∙ ap (names_after (names_in now)) (sym c.in-Output.is)
 
 pub returns-in-Guest-clause-ok : goal.returns-in-Guest-clause-ok
-returns-in-Guest-clause-ok c = c.declare_guest.ensures ∙ ap (names_after (names_in c.args.self.now)) (sym c.in-Guest.is)
+returns-in-Guest-clause-ok c =
+    let below : nat_lt c.in-Guest.guest 64 ≡ true = first_is _ _ (rw c.in-Guest.is at c.requires) in
+    let within : c.in-Guest.guest < length c.args.self.now.declared = grind (arith, nat_tests, below) in
+    (λ i. record (names_in c.args.self.now) { is_guest = λ number. set_known c.args.self.now.declared c.in-Guest.guest true within number i })
+    ∙ ap (names_after (names_in c.args.self.now)) (sym c.in-Guest.is)
 
 pub returns-in-Call-clause-ok : goal.returns-in-Call-clause-ok
 returns-in-Call-clause-ok c =
-    let stands : get_or c.args.self.now.declared c.in-Call.guest false ≡ true = first_is _ (call_stands (names_in c.args.self.now) c.in-Call.guest c.in-Call.call) (rw c.in-Call.is at c.requires) in
+    let stands : get_or c.args.self.now.declared c.in-Call.guest false ≡ true = rw c.in-Call.is at c.requires in
     let within : c.in-Call.guest < length c.args.self.now.called = omega (arith, flag_within c.args.self.now.declared c.in-Call.guest stands) in
     (λ i. record (names_in c.args.self.now) { was_called = λ number. set_known c.args.self.now.called c.in-Call.guest true within number i })
     ∙ ap (names_after (names_in c.args.self.now)) (sym c.in-Call.is)

@@ -1,8 +1,6 @@
 use Rattle.std.proofs.Common.{◌≡◌, ℕ, false, get_or, refl, ap, zero, suc}
 use Rattle.std.specs.Prelude.{replicate}
-use Rattle.wasi_script.specs.Declarations.{tasks_by, stream_names, task_at}
-use Rattle.wasi_script.specs.declared.lines.Standard.{Standard}
-use Rattle.wasi_script.specs.declared.lines.Standard.TheVariants as standard
+use Rattle.wasi_script.specs.Declarations.{stream_names, task_at}
 use Rattle.wasi_script.proofs.declarations.Declarations.none.Goals as goal
 
 none_declared : (count number : ℕ) → get_or (replicate count false) number false ≡ false
@@ -10,16 +8,10 @@ none_declared zero number = refl
 none_declared (suc count) zero = refl
 none_declared (suc count) (suc number) = none_declared count number
 
-no_task : (stream : Standard) (number : ℕ) → tasks_by (replicate 64 false) (replicate 64 false) (replicate 64 false) stream number ≡ false
-no_task standard.Input number = none_declared 64 number
-no_task standard.Output number = none_declared 64 number
-no_task standard.Error number = none_declared 64 number
-
 pub returns : goal.returns
 returns c = λ i. record {
   is_guest = λ number. none_declared 64 number i;
   was_called = λ number. none_declared 64 number i;
-  has_task = λ stream number. no_task stream number i;
   inputs = ap stream_names c.none.ensures i;
   outputs = ap stream_names c.none-2.ensures i;
   reads_ahead = ap task_at c.none.ensures i;

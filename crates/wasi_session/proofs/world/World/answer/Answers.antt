@@ -1,4 +1,4 @@
-use Rattle.wasi_script.specs.Grammar.{may_declare, budget_stands, call_stands}
+use Rattle.wasi_script.specs.Grammar.{may_declare, budget_stands}
 use Rattle.wasi_script.specs.laws.Distinct.{first_is}
 use Rattle.wasi_host.specs.Host.{names_of}
 use Rattle.wasi_host.specs.laws.Steps.{second_of}
@@ -15,4 +15,4 @@ pub declare_output-requires-clause-stands : goal.declare_output-requires-clause-
 declare_output-requires-clause-stands g c = second_of (may_declare (names_of c.args.self.now) c.in-Output.name) _ (rw c.in-Output.is at c.requires.fits)
 
 pub call-requires : goal.call-requires
-call-requires g c = first_is _ (call_stands (names_of c.args.self.now) c.in-Call.guest c.in-Call.call) (rw c.in-Call.is at c.requires.fits)
+call-requires g c = rw c.in-Call.is at c.requires.fits

@@ -1,0 +1,23 @@
+use Rattle.std.proofs.Common.{ap, sym, ◌∙◌}
+use Rattle.wasi_script.specs.Rows.{rows_of}
+use Rattle.wasi_host.specs.declared.stream.InStream.{InStream}
+use Rattle.wasi_host.specs.declared.stream.InStream.TheVariants as in_stream
+use Rattle.wasi_host.specs.InStreams.{input_without}
+use Rattle.wasi_host.specs.Host.{Named, Streams, put_back}
+use Rattle.wasi_session.proofs.RowFacts.{row_there, row_put, none_put}
+use Rattle.wasi_session.proofs.streams.Streams.leave_input_named.Goals.{in-Some, in-None}
+use Rattle.wasi_session.proofs.streams.Streams.leave_input_named.Goals as goal
+
+pub returns : goal.returns
+returns c =
+    let es = c.self.inside.inputs.entries in
+    let name = c.args.name.now in
+    let whole : Named InStream → Streams = λ named. record { inputs = named; outputs = rows_of c.self.inside.outputs.entries } in
+    elim c.match-get_mut.branch [
+      | in-Some w ↦
+          let found = row_there in_stream.Closed es name w.in-Some.stream.now (rw w.in-Some.is at c.get_mut.ensures.value) in
+          rw (w.self-inside-is, ← c.self.view_is) (ap whole (row_put es _ name w.leave_input.new.stream (c.get_mut.follows.holds w.leave_input.new.stream).0
+          ∙ ap (λ it. put_back name it (rows_of es)) (w.leave_input.ensures ∙ ap (input_without c.args.who) (sym found))))
+      | in-None w ↦
+          rw (w.self-inside-is, ← c.self.view_is) (ap whole (ap (λ rows. rows_of rows.entries) c.get_mut.follows.holds-at-none ∙ sym (none_put es name _ (rw w.in-None.is at c.get_mut.ensures.value))))
+    ]
