@@ -1,7 +1,8 @@
 -- A run of steps over a source that tells: its replies, and what it leaves.
-use Rattle.std.specs.Prelude.{◌≡◌, ℕ, zero, suc, ◌≤◌, List, [], ◌∷◌, length, take, Option, Some}
+use Rattle.std.specs.Prelude.{ℕ, zero, suc, List, [], ◌∷◌, Option}
 use Rattle.wasi_base.specs.Source.{Told, Given, gives, told_after}
 use Rattle.wasi_base.specs.Source as given
+use Rattle.wasi_commands.specs.Programs.{IsLeftByFirst}
 use Rattle.wasi_reply.specs.declared.reply.Reply.{Reply}
 use Rattle.wasi_reply.specs.Reply.{text_of_all}
 use Rattle.wasi_pipeline.specs.Steps.{Pipe, Stepped, new_pipe, stepped, size_read}
@@ -43,7 +44,5 @@ abbrev pub told_after_run : List Line → Told → Told
 told_after_run steps told = told_end steps new_pipe told
 
 -- a run that found no memory: the input is left as some first steps of it left it
-pub record LeftByFirst (steps : List Line) (input : Told) (told_now : Option Told) : Type 0 where
-  pub count : ℕ
-  pub within : count ≤ length steps
-  pub stdin : told_now ≡ Some (told_after_run (take count steps) input)
+abbrev pub LeftByFirst : List Line → Told → Option Told → Type 0
+LeftByFirst steps input = IsLeftByFirst steps (λ first. told_after_run first input)

@@ -1,28 +1,58 @@
-ghost use Rattle.std.specs.Prelude.{◌≡◌, ◌≤◌, IfErr, OnOk, Some, Err, length};
+ghost use Rattle.std.specs.Prelude.{◌≡◌, ◌≤◌, IfErr, OnOk, Some, Err};
 ghost use Rattle.wasi_base.specs.Causes.{Rose};
 ghost use Rattle.wasi_base.specs.Source.{Told};
+ghost use Rattle.wasi_commands.specs.Programs.{OnUnstarted, OnReadFault, OnWriteFault, OnNoMemory};
 ghost use Rattle.wasi_pipeline.specs.Grammar.{parsed, steps_of};
-ghost use Rattle.wasi_pipeline.specs.Program.{ScriptRead, BytesTell, OnUnstarted, OnReadFault, OnWriteFault, OnNoMemory, IsCutOff, IsDone};
+ghost use Rattle.wasi_pipeline.specs.Program.{ScriptRead, IsCutOff, IsDone};
 ghost use Rattle.wasi_pipeline.specs.Run.{LeftByFirst};
 
 use crate::parse::{ScriptError, parse_script};
 use crate::run::run_steps;
 use std::alloc::Global;
 use wasi_base::{Sink, Source, write_all};
-use wasi_commands::{ReadError, read_script};
+use wasi_commands::{Program, ProgramError as PipelineError, RunError, run_script};
 
-/// Why a run did not come to its good end.
-#[derive(Clone, Copy, Debug, PartialEq, Eq, Drop)]
-pub enum PipelineError {
-    /// The script's source failed.
-    ReadFault,
-    /// The script has more than 16777216 bytes.
-    TooLong,
-    /// The first line that is not valid, counted from 1.
-    BadScript(u64),
-    /// The output failed.
-    WriteFault,
-    OutOfMemory,
+/// The language of scripts of pipelines, as programs run it.
+pub struct Pipelines;
+
+impl Program for Pipelines {
+    ghost use Rattle.std.proofs.Common.{subst, refl, rules};
+    ghost use Rattle.wasi_pipeline.specs.Grammar.{IsGood, parsed, steps_of};
+    ghost use Rattle.wasi_pipeline.specs.Program.{IsValid, IsBadAt, IsCutOff, IsDone};
+    ghost use Rattle.wasi_pipeline.specs.Run.{LeftByFirst};
+
+    ghost is_valid = { IsValid };
+
+    ghost is_bad_at = { IsBadAt };
+
+    ghost is_done = { IsDone };
+
+    ghost is_cut_off = { IsCutOff };
+
+    ghost is_stopped = { λ script. LeftByFirst (steps_of (parsed script)) };
+
+    ghost no_bad_line = { λ script n good bad. subst IsGood bad good };
+
+    ghost may_stop_unread = { λ script t. record { count = 0; within = Prim.search rules; stdin = refl } };
+
+    fn run<I: Source, K: Sink>(
+        alloc: Global,
+        script: &[u8],
+        stdin: &mut I,
+        out: &mut K,
+    ) -> Result<(), RunError> {
+        match parse_script(alloc, script) {
+            Ok(steps) => match run_steps(alloc, steps.as_slice(), stdin) {
+                Ok(text) => match write_all(out, &text) {
+                    Ok(()) => Ok(()),
+                    Err(_) => Err(RunError::WriteFault),
+                },
+                Err(_) => Err(RunError::OutOfMemory),
+            },
+            Err(ScriptError::BadLine(number)) => Err(RunError::BadScript(number)),
+            Err(ScriptError::OutOfMemory) => Err(RunError::OutOfMemory),
+        }
+    }
 }
 
 /// A whole run: reads the script, runs its steps on the input, and writes the
@@ -45,39 +75,5 @@ pub fn run_chain<S: Source, I: Source, K: Sink>(
     ensures unwritten { result ≡ Err PipelineError.OutOfMemory → out.new ≡ out.old }
     ensures later { S.faults script.old ≤ S.faults script.new }
 {
-    match read_script(alloc, script) {
-        Ok(bytes) => run_bytes(alloc, &bytes, stdin, out),
-        Err(ReadError::Fault) => Err(PipelineError::ReadFault),
-        Err(ReadError::TooLong) => Err(PipelineError::TooLong),
-        Err(ReadError::OutOfMemory) => Err(PipelineError::OutOfMemory),
-    }
-}
-
-// a run over a script that was read
-fn run_bytes<I: Source, K: Sink>(
-    alloc: Global,
-    bytes: &[u8],
-    stdin: &mut I,
-    out: &mut K,
-) -> Result<(), PipelineError>
-    requires { length bytes.now ≤ 16777216 }
-    ensures done { (t : Told) → I.told stdin.old ≡ Some t → OnOk result (IsDone bytes.now t (K.taken out.old) (K.taken out.new) (I.told stdin.new)) }
-    ensures script { BytesTell result bytes.now }
-    ensures write { IfErr result (λ e. OnWriteFault e (Rose (K.faults out.old) (K.faults out.new))) }
-    ensures cut_off { (t : Told) → I.told stdin.old ≡ Some t → IfErr result (λ e. OnWriteFault e (IsCutOff bytes.now t (K.taken out.old) (K.taken out.new) (I.told stdin.new))) }
-    ensures stopped { (t : Told) → I.told stdin.old ≡ Some t → IfErr result (λ e. OnNoMemory e (LeftByFirst (steps_of (parsed bytes.now)) t (I.told stdin.new))) }
-    ensures unstarted { IfErr result (λ e. OnUnstarted e ((out.new ≡ out.old) × (stdin.new ≡ stdin.old))) }
-    ensures unwritten { result ≡ Err PipelineError.OutOfMemory → out.new ≡ out.old }
-{
-    match parse_script(alloc, bytes) {
-        Ok(steps) => match run_steps(alloc, steps.as_slice(), stdin) {
-            Ok(text) => match write_all(out, &text) {
-                Ok(()) => Ok(()),
-                Err(_) => Err(PipelineError::WriteFault),
-            },
-            Err(_) => Err(PipelineError::OutOfMemory),
-        },
-        Err(ScriptError::BadLine(number)) => Err(PipelineError::BadScript(number)),
-        Err(ScriptError::OutOfMemory) => Err(PipelineError::OutOfMemory),
-    }
+    run_script::<Pipelines, S, I, K>(alloc, script, stdin, out)
 }

@@ -18,7 +18,7 @@ mod stage;
 #[cfg(test)]
 mod tests;
 
-pub use chain_run::{PipelineError, run_chain};
+pub use chain_run::{Pipelines, run_chain};
 pub use kind::StageKind;
 pub use laws::{valid_runs_complete, valid_runs_conserve};
 pub use line::Line;
@@ -28,3 +28,4 @@ pub use pipeline::Pipeline;
 pub use program::run_pipeline;
 pub use run::run_steps;
 pub use stage::Turn;
+pub use wasi_commands::ProgramError as PipelineError;

@@ -7,10 +7,10 @@ ghost use Rattle.wasi_pipeline.specs.Grammar.{parsed, Bad, IsGood, steps_of};
 ghost use Rattle.wasi_pipeline.specs.Program.{is_pipe_words, usage_line, IsDone, IsCutOff};
 ghost use Rattle.wasi_pipeline.specs.Run.{LeftByFirst};
 
-use crate::chain_run::{PipelineError, run_chain};
+use crate::chain_run::Pipelines;
 use std::alloc::Global;
 use wasi_base::{Sink, Source};
-use wasi_commands::{is_word, tell, tell_bad_script};
+use wasi_commands::run_command;
 
 /// All that the program does with its words, the script, the input, its output and the
 /// sink for a line on a refusal. Answers the exit status: 0 at the good end; 2 for words of no
@@ -46,37 +46,14 @@ pub fn run_pipeline<S: Source, I: Source, K: Sink, E: Sink>(
     // a valid script whose source and whose output do not fail
     ensures complete { (s : Told) → S.told script.old ≡ Some s → is_pipe_words (words_of words.now) ≡ true → IsGood (parsed s.left) → length s.left ≤ 16777216 → (Rose (S.faults script.old) (S.faults script.new) → ⊥) → (Rose (K.faults out.old) (K.faults out.new) → ⊥) → (result ≡ 0) ⊎ (result ≡ 7) }
 {
-    if !is_pipe(words) {
-        tell(err, b"usage: wasi_pipe pipe FILE\n");
-        return 2;
-    }
-    match run_chain(alloc, script, stdin, out) {
-        Ok(()) => 0,
-        Err(PipelineError::ReadFault) => {
-            tell(err, b"read fault\n");
-            3
-        }
-        Err(PipelineError::TooLong) => {
-            tell(err, b"script too long\n");
-            4
-        }
-        Err(PipelineError::BadScript(number)) => {
-            tell_bad_script(err, number);
-            5
-        }
-        Err(PipelineError::WriteFault) => {
-            tell(err, b"write fault\n");
-            6
-        }
-        Err(PipelineError::OutOfMemory) => {
-            tell(err, b"out of memory\n");
-            7
-        }
-    }
-}
-
-fn is_pipe(words: &[String]) -> bool
-    ensures { result ≡ is_pipe_words (words_of words.now) }
-{
-    words.len() == 2 && is_word(&words[0], b"pipe")
+    run_command::<Pipelines, S, I, K, E>(
+        alloc,
+        b"pipe",
+        b"usage: wasi_pipe pipe FILE\n",
+        words,
+        script,
+        stdin,
+        out,
+        err,
+    )
 }

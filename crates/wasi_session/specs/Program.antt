@@ -1,13 +1,10 @@
 -- The words of the command line.
-use Rattle.std.specs.Prelude.{ℕ, Bool, false, List, [], ◌∷◌, codes}
-use Rattle.std.specs.Str.{bytes_eq}
+use Rattle.std.specs.Prelude.{ℕ, Bool, List, codes}
+use Rattle.wasi_commands.specs.Programs.{is_command_on_file}
 
 -- `run FILE`, where FILE is any word
 abbrev pub is_run_words : List (List ℕ) → Bool
-is_run_words [] = false
-is_run_words (first ∷ []) = false
-is_run_words (first ∷ file ∷ []) = bytes_eq first (codes "run")
-is_run_words (first ∷ file ∷ more ∷ rest) = false
+is_run_words = is_command_on_file (codes "run")
 
 -- the line that tells a status of 2
 abbrev pub usage_line : List ℕ

@@ -19,5 +19,6 @@ mod world;
 
 pub use laws::lines_are_taken_in_their_place;
 pub use program::run_program;
-pub use run::{SessionError, run_session};
+pub use run::{Sessions, run_session};
 pub use session::Session;
+pub use wasi_commands::ProgramError as SessionError;

@@ -10,10 +10,10 @@ ghost use Rattle.wasi_commands.specs.Telling.{words_of, Tells, read_fault_line, 
 ghost use Rattle.wasi_session.specs.Reading.{IsCutOff, LeftByFirst};
 ghost use Rattle.wasi_session.specs.Program.{is_run_words, usage_line};
 
-use crate::run::{SessionError, run_session};
+use crate::run::Sessions;
 use std::alloc::Global;
 use wasi_base::{Sink, Source};
-use wasi_commands::{is_word, tell, tell_bad_script};
+use wasi_commands::run_command;
 
 /// All that the program does with its words, the script, the guests' input, its output and the
 /// sink for a line on a refusal. Answers the exit status: 0 at the good end; 2 for words of no
@@ -49,40 +49,14 @@ pub fn run_program<S: Source, I: Source, K: Sink, E: Sink>(
     // a valid script whose source and whose output do not fail
     ensures complete { (s : Told) → S.told script.old ≡ Some s → is_run_words (words_of words.now) ≡ true → IsGood (parsed s.left) → length s.left ≤ 16777216 → (Rose (S.faults script.old) (S.faults script.new) → ⊥) → (Rose (K.faults out.old) (K.faults out.new) → ⊥) → (result ≡ 0) ⊎ (result ≡ 7) }
 {
-    if !is_run(words) {
-        tell(
-            err,
-            b"usage: wasi_run run FILE | wasi_run gen NUMBER LINES\n",
-        );
-        return 2;
-    }
-    match run_session(alloc, script, stdin, out) {
-        Ok(()) => 0,
-        Err(SessionError::ReadFault) => {
-            tell(err, b"read fault\n");
-            3
-        }
-        Err(SessionError::TooLong) => {
-            tell(err, b"script too long\n");
-            4
-        }
-        Err(SessionError::BadScript(number)) => {
-            tell_bad_script(err, number);
-            5
-        }
-        Err(SessionError::WriteFault) => {
-            tell(err, b"write fault\n");
-            6
-        }
-        Err(SessionError::OutOfMemory) => {
-            tell(err, b"out of memory\n");
-            7
-        }
-    }
-}
-
-fn is_run(words: &[String]) -> bool
-    ensures { result ≡ is_run_words (words_of words.now) }
-{
-    words.len() == 2 && is_word(&words[0], b"run")
+    run_command::<Sessions, S, I, K, E>(
+        alloc,
+        b"run",
+        b"usage: wasi_run run FILE | wasi_run gen NUMBER LINES\n",
+        words,
+        script,
+        stdin,
+        out,
+        err,
+    )
 }

@@ -1,29 +1,16 @@
-ghost use Rattle.std.specs.Prelude.{◌≡◌, ◌≤◌, ◌<◌, IfOk, IfErr, OnOk, OnErr, Some, Err, length};
+ghost use Rattle.std.specs.Prelude.{◌≡◌, ◌≤◌, IfOk, IfErr, OnOk, OnErr, Some, Err};
 ghost use Rattle.wasi_base.specs.Causes.{Rose};
 ghost use Rattle.wasi_base.specs.Source.{Told};
-ghost use Rattle.wasi_script.specs.Grammar.{AllStand, no_names, parsed, Bad, IsGood, steps_of};
+ghost use Rattle.wasi_script.specs.Grammar.{AllStand, no_names, parsed, steps_of};
+ghost use Rattle.wasi_commands.specs.Programs.{OnUnstarted, OnReadFault, OnWriteFault, OnNoMemory};
 ghost use Rattle.wasi_host.specs.Transcript.{transcript, told_after_run, IsDone};
-ghost use Rattle.wasi_session.specs.Reading.{ScriptRead, BytesTell, OnUnstarted, OnReadFault, OnWriteFault, OnNoMemory, IsCutOff, LeftByFirst};
+ghost use Rattle.wasi_session.specs.Reading.{ScriptRead, IsCutOff, LeftByFirst};
 
 use crate::session::Session;
 use std::alloc::Global;
 use wasi_base::{OutOfMemory, Sink, Source, write_all};
-use wasi_commands::{ReadError, read_script};
+use wasi_commands::{Program, ProgramError as SessionError, RunError, run_script};
 use wasi_script::{Line, ScriptError, parse_script};
-
-/// Why a session did not come to its good end.
-#[derive(Clone, Copy, Debug, PartialEq, Eq, Drop)]
-pub enum SessionError {
-    /// The script's source failed.
-    ReadFault,
-    /// The script has more than 16777216 bytes.
-    TooLong,
-    /// The first line that is not valid, counted from 1.
-    BadScript(u64),
-    /// The output failed.
-    WriteFault,
-    OutOfMemory,
-}
 
 // runs all steps, and gives the text of their replies and of the outputs
 fn run_steps<I: Source>(
@@ -46,6 +33,49 @@ fn run_steps<I: Source>(
     Ok(text)
 }
 
+/// The language of scripts of guest sessions, as programs run it.
+pub struct Sessions;
+
+impl Program for Sessions {
+    ghost use Rattle.std.proofs.Common.{subst, refl, rules};
+    ghost use Rattle.wasi_script.specs.Grammar.{IsGood, parsed, steps_of};
+    ghost use Rattle.wasi_host.specs.Transcript.{IsDone};
+    ghost use Rattle.wasi_session.specs.Reading.{IsValid, IsBadAt, IsCutOff, LeftByFirst};
+
+    ghost is_valid = { IsValid };
+
+    ghost is_bad_at = { IsBadAt };
+
+    ghost is_done = { IsDone };
+
+    ghost is_cut_off = { IsCutOff };
+
+    ghost is_stopped = { λ script. LeftByFirst (steps_of (parsed script)) };
+
+    ghost no_bad_line = { λ script n good bad. subst IsGood bad good };
+
+    ghost may_stop_unread = { λ script t. record { count = 0; within = Prim.search rules; stdin = refl } };
+
+    fn run<I: Source, K: Sink>(
+        alloc: Global,
+        script: &[u8],
+        stdin: &mut I,
+        out: &mut K,
+    ) -> Result<(), RunError> {
+        match parse_script(alloc, script) {
+            Ok(parsed) => match run_steps(alloc, parsed.steps(), stdin) {
+                Ok(text) => match write_all(out, &text) {
+                    Ok(()) => Ok(()),
+                    Err(_) => Err(RunError::WriteFault),
+                },
+                Err(_) => Err(RunError::OutOfMemory),
+            },
+            Err(ScriptError::BadLine(number)) => Err(RunError::BadScript(number)),
+            Err(ScriptError::OutOfMemory) => Err(RunError::OutOfMemory),
+        }
+    }
+}
+
 /// A whole session: reads the script, runs its steps on the guests' input, and writes the
 /// transcript. The whole script is read and checked before the first step, so until then nothing
 /// is written and the input is unread. Where memory runs out nothing is written, and the input is
@@ -66,39 +96,5 @@ pub fn run_session<S: Source, I: Source, K: Sink>(
     ensures unwritten { result ≡ Err SessionError.OutOfMemory → out.new ≡ out.old }
     ensures later { S.faults script.old ≤ S.faults script.new }
 {
-    match read_script(alloc, script) {
-        Ok(bytes) => run_bytes(alloc, &bytes, stdin, out),
-        Err(ReadError::Fault) => Err(SessionError::ReadFault),
-        Err(ReadError::TooLong) => Err(SessionError::TooLong),
-        Err(ReadError::OutOfMemory) => Err(SessionError::OutOfMemory),
-    }
-}
-
-// a session over a script that was read
-fn run_bytes<I: Source, K: Sink>(
-    alloc: Global,
-    bytes: &[u8],
-    stdin: &mut I,
-    out: &mut K,
-) -> Result<(), SessionError>
-    requires { length bytes.now ≤ 16777216 }
-    ensures done { (t : Told) → I.told stdin.old ≡ Some t → OnOk result (IsDone bytes.now t (K.taken out.old) (K.taken out.new) (I.told stdin.new)) }
-    ensures script { BytesTell result bytes.now }
-    ensures write { IfErr result (λ e. OnWriteFault e (Rose (K.faults out.old) (K.faults out.new))) }
-    ensures cut_off { (t : Told) → I.told stdin.old ≡ Some t → IfErr result (λ e. OnWriteFault e (IsCutOff bytes.now t (K.taken out.old) (K.taken out.new) (I.told stdin.new))) }
-    ensures stopped { (t : Told) → I.told stdin.old ≡ Some t → IfErr result (λ e. OnNoMemory e (LeftByFirst (steps_of (parsed bytes.now)) t (I.told stdin.new))) }
-    ensures unstarted { IfErr result (λ e. OnUnstarted e ((out.new ≡ out.old) × (stdin.new ≡ stdin.old))) }
-    ensures unwritten { result ≡ Err SessionError.OutOfMemory → out.new ≡ out.old }
-{
-    match parse_script(alloc, bytes) {
-        Ok(parsed) => match run_steps(alloc, parsed.steps(), stdin) {
-            Ok(text) => match write_all(out, &text) {
-                Ok(()) => Ok(()),
-                Err(_) => Err(SessionError::WriteFault),
-            },
-            Err(_) => Err(SessionError::OutOfMemory),
-        },
-        Err(ScriptError::BadLine(number)) => Err(SessionError::BadScript(number)),
-        Err(ScriptError::OutOfMemory) => Err(SessionError::OutOfMemory),
-    }
+    run_script::<Sessions, S, I, K>(alloc, script, stdin, out)
 }
