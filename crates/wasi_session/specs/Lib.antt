@@ -5,3 +5,4 @@ pub mod Makes
 pub mod Capacities
 pub mod StreamCalls
 pub mod Live
+pub mod Generated

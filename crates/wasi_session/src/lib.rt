@@ -2,6 +2,7 @@
 #![tactic(auto)]
 
 mod answers;
+mod generated;
 mod guest;
 mod input;
 mod laws;

@@ -13,7 +13,7 @@ use wasi_commands::{Program, ProgramError as SessionError, RunError, run_script}
 use wasi_script::{Line, ScriptError, parse_script};
 
 // runs all steps, and gives the text of their replies and of the outputs
-fn run_steps<I: Source>(
+pub(crate) fn run_steps<I: Source>(
     alloc: Global,
     steps: &[Line],
     stdin: &mut I,

@@ -1,0 +1,50 @@
+ghost use Rattle.std.specs.Prelude.{◌≡◌, ◌≤◌, ◌++◌, IfOk, OnOk};
+ghost use Rattle.wasi_session.specs.Generated.{count_line, count_lines, report};
+
+use crate::run::run_steps;
+use itoa::Buffer;
+use std::alloc::Global;
+use wasi_base::{MemSource, OutOfMemory};
+use wasi_script::{ScriptError, gen_script, parse_script};
+
+/// Runs a generated script on its input, and tells how many steps it has, how many bytes its
+/// transcript has and how many bytes of the input no delivery read, each on a line.
+pub(crate) fn report_generated(
+    alloc: Global,
+    number: u64,
+    lines: u64,
+) -> Result<Vec<u8>, OutOfMemory>
+    requires { lines ≤ 100000 }
+    ensures { IfOk result (λ text. text.items ≡ report number lines) }
+{
+    let (script, input) = gen_script(alloc, number, lines)?;
+    let parsed = match parse_script(alloc, &script) {
+        Ok(parsed) => parsed,
+        Err(ScriptError::BadLine(_)) => unreachable!(),
+        Err(ScriptError::OutOfMemory) => return Err(OutOfMemory),
+    };
+    let mut stdin = MemSource::new(input, Vec::new(alloc));
+    let transcript = run_steps(alloc, parsed.steps(), &mut stdin)?;
+    let left = stdin.left().len();
+    write_counts(alloc, parsed.len(), transcript.len() as u64, left as u64)
+}
+
+fn write_counts(alloc: Global, steps: u64, printed: u64, left: u64) -> Result<Vec<u8>, OutOfMemory>
+    ensures { IfOk result (λ text. text.items ≡ count_lines steps printed left) }
+{
+    let mut text = Vec::new(alloc);
+    push_count(&mut text, b"steps ", steps)?;
+    push_count(&mut text, b"printed ", printed)?;
+    push_count(&mut text, b"left ", left)?;
+    Ok(text)
+}
+
+fn push_count(text: &mut Vec<u8>, label: &[u8], count: u64) -> Result<(), OutOfMemory>
+    ensures { OnOk result (text.new.items ≡ text.old.items ++ count_line label.now count) }
+{
+    let mut buffer = Buffer::new();
+    text.extend_from_slice(label)?;
+    text.extend_from_slice(buffer.format(count).as_bytes())?;
+    text.push(b'\n')?;
+    Ok(())
+}
