@@ -1,6 +1,6 @@
 use crate::declared::Declared;
 use crate::fields::{Field, guest_number};
-use crate::forms::{call_fields, line_fields, turn_fields};
+use crate::forms::{call_fields, clock_fields, line_fields, turn_fields};
 use crate::reason::Reason;
 use crate::words::{Flaw, Words};
 use wasi_script::Standard;
@@ -17,6 +17,7 @@ pub fn check_line(line: &[u8], declared: &Declared) -> Result<(), Flaw> {
     match (word.text, first) {
         (b"call", Some(caller)) => check_call(caller.text, &mut words, declared)?,
         (b"turn", _) => check_turn(&mut words, declared)?,
+        (b"clock", _) => check_clock(&mut words, declared)?,
         _ => {}
     }
     words.expect_end()
@@ -47,6 +48,12 @@ fn polls_task(caller: &[u8], name: &[u8], declared: &Declared) -> bool {
 fn check_turn(words: &mut Words, declared: &Declared) -> Result<(), Flaw> {
     let kind = words.expect_word()?;
     let fields = turn_fields(kind.text).ok_or(kind.flaw(Reason::NoSuchTask))?;
+    check_fields(fields, words, declared)
+}
+
+fn check_clock(words: &mut Words, declared: &Declared) -> Result<(), Flaw> {
+    let clock = words.expect_word()?;
+    let fields = clock_fields(clock.text).ok_or(clock.flaw(Reason::NoSuchClock))?;
     check_fields(fields, words, declared)
 }
 

@@ -8,4 +8,5 @@ pub mod Plans
 pub mod Reads
 pub mod Refused
 pub mod Rows
+pub mod Times
 pub mod laws

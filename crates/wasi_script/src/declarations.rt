@@ -63,7 +63,7 @@ pub trait Declared {
                 self.allow_set_up(*guest) && self.allow_setting(setting)
             }
             Line::Call { guest, call } => self.has_guest(*guest) && self.allow_call(*guest, call),
-            Line::Worker(_) => true,
+            Line::Worker(_) | Line::Clock(_) => true,
             Line::Turn(task) => self.allow_turn(task),
         }
     }
@@ -304,7 +304,7 @@ impl Declarations {
             Line::Guest { guest, input } => self.declare_guest(*guest, input),
             Line::Configure { guest, setting } => self.configure(*guest, setting),
             Line::Call { guest, call: _ } => self.called[*guest as usize] = true,
-            Line::Worker(_) | Line::Turn(_) => {}
+            Line::Worker(_) | Line::Turn(_) | Line::Clock(_) => {}
         }
         Ok(())
     }

@@ -6,15 +6,16 @@ ghost use Rattle.wasi_session.specs.Makes.{IsMake};
 ghost use Rattle.wasi_session.specs.Capacities.{CapacityFits};
 ghost use Rattle.wasi_session.specs.StreamCalls.{stream_doing};
 ghost use Rattle.wasi_script.specs.Grammar.{input_has_task, output_has_task};
-ghost use Rattle.wasi_host.specs.Host.{task_of, reads_ahead_in, writes_behind_in, the_rules, new_guest, configured, left_guest, settled, answer_at, answer_to, answer_by};
+ghost use Rattle.wasi_host.specs.Host.{task_of, reads_ahead_in, writes_behind_in, the_calls, new_guest, configured, left_guest, settled, answer_at, answer_to, answer_by};
 
+use crate::clocks::{awaited, clocked};
 use crate::own::Own;
 use crate::shared;
 use crate::streams::Streams;
 use std::alloc::Global;
 use std::marker::Model;
 use wasi_base::{OutOfMemory, TrapText};
-use wasi_host::{Deed, Entry, Owner, Settings, SharedEntry, StreamEntry};
+use wasi_host::{Clocks, Deed, Entry, Owner, Settings, SharedEntry, StreamEntry};
 use wasi_reply::{Reply, Told};
 use wasi_script::{Access, Call, EntryCall, ExitStatus, Input, Output, OwnCall, Setting, Standard};
 use wasi_stdin::{StdinCore, Wait};
@@ -99,17 +100,18 @@ impl Guest {
         alloc: Global,
         guest: u32,
         call: &Call,
+        clocks: &Clocks,
         core: &mut StdinCore,
         streams: &mut Streams,
     ) -> Result<Reply, OutOfMemory>
-        ensures done { IfOk result (λ reply. record { reply = reply; guest = self.new; shared = core.new; streams = streams.new } ≡ answer_by self.old.ended the_rules call.now guest self.old core.old streams.old) }
+        ensures done { IfOk result (λ reply. record { reply = reply; guest = self.new; shared = core.new; streams = streams.new } ≡ answer_by self.old.ended (the_calls clocks.now) call.now guest self.old core.old streams.old) }
         ensures err { OnErr result ((self.new ≡ self.old) × (core.new ≡ core.old) × (streams.new ≡ streams.old)) }
     {
         if self.ended {
             self.was_called = true;
             return Ok(Reply::Ended);
         }
-        let reply = self.answer(alloc, guest, call, core, streams)?;
+        let reply = self.answer(alloc, guest, call, clocks, core, streams)?;
         self.settle(&reply);
         Ok(reply)
     }
@@ -131,10 +133,11 @@ impl Guest {
         alloc: Global,
         guest: u32,
         call: &Call,
+        clocks: &Clocks,
         core: &mut StdinCore,
         streams: &mut Streams,
     ) -> Result<Reply, OutOfMemory>
-        ensures done { IfOk result (λ reply. settled self.old (record { reply = reply; own = self.new.own }) core.new streams.new ≡ answer_to the_rules call.now guest self.old core.old streams.old) }
+        ensures done { IfOk result (λ reply. settled self.old (record { reply = reply; own = self.new.own }) core.new streams.new ≡ answer_to (the_calls clocks.now) call.now guest self.old core.old streams.old) }
         ensures rest { self.new ≡ record self.old { own = self.new.own } }
         ensures err { OnErr result ((self.new ≡ self.old) × (core.new ≡ core.old) × (streams.new ≡ streams.old)) }
     {
@@ -151,11 +154,11 @@ impl Guest {
                     guest,
                     number: *number,
                 };
-                self.answer_at(alloc, call, at, core, streams)
+                self.answer_at(alloc, call, at, clocks, core, streams)
             }
             Call::Drop { number } => Ok(self.own.drop(*number)),
             Call::Own(call) => {
-                let deed = self.owned(call);
+                let deed = self.owned(call, clocks);
                 self.own.act_apart(deed)
             }
         }
@@ -167,10 +170,11 @@ impl Guest {
         alloc: Global,
         call: &EntryCall,
         at: Owner,
+        clocks: &Clocks,
         core: &mut StdinCore,
         streams: &mut Streams,
     ) -> Result<Reply, OutOfMemory>
-        ensures done { IfOk result (λ reply. settled self.old (record { reply = reply; own = self.new.own }) core.new streams.new ≡ answer_at the_rules call.now at (entry_at self.old.own at.number) self.old core.old streams.old) }
+        ensures done { IfOk result (λ reply. settled self.old (record { reply = reply; own = self.new.own }) core.new streams.new ≡ answer_at (the_calls clocks.now) call.now at (entry_at self.old.own at.number) self.old core.old streams.old) }
         ensures rest { self.new ≡ record self.old { own = self.new.own } }
         ensures err { OnErr result ((self.new ≡ self.old) × (core.new ≡ core.old) × (streams.new ≡ streams.old)) }
     {
@@ -184,6 +188,10 @@ impl Guest {
             Some(Entry::Stream { stream, entry }) => {
                 let (stream, entry) = (*stream, *entry);
                 let deed = self.on_stream(alloc, call, at, stream, entry, streams)?;
+                self.own.act_apart(deed)
+            }
+            Some(Entry::Own(entry)) => {
+                let deed = awaited(clocks, call, at, *entry);
                 self.own.act_apart(deed)
             }
         }
@@ -213,14 +221,15 @@ impl Guest {
         }
     }
 
-    // a call on what the guest owns alone
-    fn owned(&self, call: &OwnCall) -> Deed
-        ensures { result ≡ owned call.now self.now.settings self.now.own }
+    // a call on no entry and no stream
+    fn owned(&self, call: &OwnCall, clocks: &Clocks) -> Deed
+        ensures { result ≡ owned clocks.now call.now self.now.settings self.now.own }
     {
         let _ = &self;
         match call {
             OwnCall::Exit { status } => Deed::Tell(Told::Exit(exit_status(*status))),
             OwnCall::ExitCode { code } => Deed::Tell(Told::Exit(*code)),
+            OwnCall::Clock(call) => clocked(clocks, *call),
         }
     }
 }

@@ -2,6 +2,7 @@
 #![tactic(auto)]
 
 mod answers;
+mod clocks;
 mod guest;
 mod input;
 mod laws;

@@ -1,5 +1,6 @@
 ghost use Rattle.std.specs.Prelude.{None};
 
+mod clocks;
 mod tasks;
 
 use crate::{run_program, run_session};

@@ -22,6 +22,8 @@ use Rattle.wasi_host.specs.declared.entry.Entry.{Entry}
 use Rattle.wasi_host.specs.declared.entry.Entry.TheVariants as entry
 use Rattle.wasi_host.specs.declared.entry.SharedEntry.TheVariants as shared
 use Rattle.wasi_host.specs.declared.entry.StreamEntry.TheVariants as stream
+use Rattle.wasi_host.specs.declared.entry.OwnEntry.TheVariants as kept
+use Rattle.wasi_clocks.specs.declared.deadlines.Deadline.{Deadline}
 use Rattle.wasi_host.specs.declared.deed.Deed.{Deed}
 use Rattle.wasi_host.specs.declared.deed.Deed.TheVariants.{Tell, Make, Change}
 use Rattle.wasi_host.specs.Deeds.{Own, Done, only_told, trapped, entry_at, stands_alone, goes_under, may_make, may_change, made, with_kept, act, dropped_at}
@@ -38,6 +40,7 @@ under_none other = refl
 again_alone : (old new : Entry) → may_change (Some old) new ≡ true → stands_alone new ≡ stands_alone old
 again_alone (entry.Shared (shared.Polled old)) (entry.Shared (shared.Polled new)) e = refl
 again_alone (entry.Shared (shared.Pollable old)) (entry.Shared (shared.Pollable new)) e = refl
+again_alone (entry.Own (kept.Deadline old)) (entry.Own (kept.Deadline new)) e = refl
 again_alone old new e = absurd (true≢false (sym e))
 
 again_under : (old new : Entry) (o : Option Entry) → may_change (Some old) new ≡ true → goes_under new o ≡ goes_under old o
@@ -45,6 +48,7 @@ again_under (entry.Shared (shared.Polled old)) (entry.Shared (shared.Polled new)
 again_under (entry.Shared (shared.Pollable old)) (entry.Shared (shared.Pollable new)) None e = refl
 again_under (entry.Shared (shared.Pollable old)) (entry.Shared (shared.Pollable new)) (Some (entry.Shared shared.Reader)) e = refl
 again_under (entry.Shared (shared.Pollable old)) (entry.Shared (shared.Pollable new)) (Some other) e = refl
+again_under (entry.Own (kept.Deadline old)) (entry.Own (kept.Deadline new)) o e = refl
 again_under old new o e = absurd (true≢false (sym e))
 
 pub none_polled : (child : Entry) (wait : Option ℕ) → goes_under child (Some (entry.Shared (shared.Polled wait))) ≡ false
@@ -57,10 +61,16 @@ none_pollable (entry.Shared (shared.Pollable w)) wait = refl
 none_pollable (entry.Stream to stream.Pollable) wait = refl
 none_pollable other wait = refl
 
+none_deadline : (child : Entry) (it : Deadline) → goes_under child (Some (entry.Own (kept.Deadline it))) ≡ false
+none_deadline (entry.Shared (shared.Pollable w)) it = refl
+none_deadline (entry.Stream to stream.Pollable) it = refl
+none_deadline other it = refl
+
 -- nothing stands under entries that are changed
 pub changed_alone : (old new child : Entry) → may_change (Some old) new ≡ true → (goes_under child (Some old) ≡ false) × (goes_under child (Some new) ≡ false)
 changed_alone (entry.Shared (shared.Polled old)) (entry.Shared (shared.Polled new)) child e = (none_polled child old, none_polled child new)
 changed_alone (entry.Shared (shared.Pollable old)) (entry.Shared (shared.Pollable new)) child e = (none_pollable child old, none_pollable child new)
+changed_alone (entry.Own (kept.Deadline old)) (entry.Own (kept.Deadline new)) child e = (none_deadline child old, none_deadline child new)
 changed_alone old new child e = absurd (true≢false (sym e))
 
 -- ---- what a guest owns

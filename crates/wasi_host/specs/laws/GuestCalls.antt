@@ -5,7 +5,7 @@ use Rattle.std.specs.Ordering.{nat_cmp}
 use Rattle.std.specs.FinSet.{FinSet, empty}
 use Rattle.wasi_base.specs.Source.{Told}
 use Rattle.wasi_base.specs.declared.trap_text.TrapText.TheVariants.{ResourceNotPresent, ResourceWrongType, ResourceTableFull}
-use Rattle.wasi_table.specs.Table.{Held, new_table, held_at, entry_in, live_count, next_number, with_pushed}
+use Rattle.wasi_table.specs.Table.{Held, new_table, held_at, entry_in, parent_in, live_count, next_number, with_pushed}
 use Rattle.wasi_table.specs.laws.Kept.{held-next_number}
 use Rattle.wasi_stdin.specs.Shared.{Shared, IsSound}
 use Rattle.wasi_script.specs.declared.lines.Input.{Input}
@@ -25,17 +25,19 @@ use Rattle.wasi_host.specs.declared.entry.Entry.{Entry}
 use Rattle.wasi_host.specs.declared.entry.Entry.TheVariants as entry
 use Rattle.wasi_host.specs.declared.entry.SharedEntry.{SharedEntry}
 use Rattle.wasi_host.specs.declared.entry.SharedEntry.TheVariants as on
+use Rattle.wasi_host.specs.declared.entry.OwnEntry.TheVariants as kept
 use Rattle.wasi_host.specs.declared.stream.InStream.{InStream}
 use Rattle.wasi_host.specs.declared.stream.OutStream.{OutStream}
 use Rattle.wasi_host.specs.declared.deed.Deed.{Deed}
 use Rattle.wasi_host.specs.declared.deed.Deed.TheVariants.{Tell, Make, Change}
 use Rattle.wasi_host.specs.Deeds.{Own, Done, trapped, entry_at, may_make, may_change, made, with_kept, act, dropped, is_shared, apart}
-use Rattle.wasi_host.specs.Calls.{Doing, doing, opened, asked, called, sent, owned as own_deed, shared_entry, stream_entry}
-use Rattle.wasi_host.specs.Host.{Guest, Streams, the_rules, Answered, settled, answer_at, answer_to, answer_by, input_at, put_input, output_at, put_output}
+use Rattle.wasi_host.specs.Calls.{Doing, doing, opened, asked, called, sent, awaited, owned as own_deed, shared_entry, stream_entry}
+use Rattle.wasi_host.specs.Clocks.{Clocks}
+use Rattle.wasi_host.specs.Host.{Guest, Streams, the_calls, Answered, settled, answer_at, answer_to, answer_by, input_at, put_input, output_at, put_output}
 use Rattle.wasi_host.specs.Run.{Standing, Sharing, at_number, without_guest, dropped_by, live_after, left_by, EntryRule, entry_bytes, CallRule, OpenRule, DropRule, EndedRule, call_bytes}
 use Rattle.wasi_host.specs.Run as run
 use Rattle.wasi_host.specs.laws.Entries.{IsOwn, own_left, Follows, acts, drops, live_is}
-use Rattle.wasi_host.specs.laws.Shown.{standing_by, standing_at, standing_in, standing_with, shares_in, capacity_in, ended_in, shown, cond_same, with_own, put_alike, put_same, nothing_stands, stands_there, standing_pushed}
+use Rattle.wasi_host.specs.laws.Shown.{standing_by, standing_at, standing_in, standing_with, shares_in, capacity_in, ended_in, shown, cond_same, with_own, put_alike, put_same, nothing_stands, stands_there, standing_kept, standing_pushed}
 use Rattle.wasi_host.specs.laws.SharedCalls.{Called, called_by, Does, none_handed, entry_does, open_does, drop_does}
 
 -- ---- a deed that is apart from the shared input
@@ -43,10 +45,15 @@ apart_none : (it : Entry) (parent : Option ℕ) → is_shared it ≡ false → s
 apart_none (entry.Shared it) parent e = absurd (true≢false e)
 apart_none other parent e = refl
 
-changes_shared : (old : Option Entry) (new : Entry) → may_change old new ≡ true → is_shared new ≡ true
-changes_shared (Some (entry.Shared (on.Polled a))) (entry.Shared (on.Polled b)) e = refl
-changes_shared (Some (entry.Shared (on.Pollable a))) (entry.Shared (on.Pollable b)) e = refl
-changes_shared old new e = absurd (true≢false (sym e))
+changes_apart : (o : Option (Held Entry)) (new : Entry) → may_change (entry_in o) new ≡ true → is_shared new ≡ false → standing_at o ≡ None
+changes_apart None new e none = refl
+changes_apart (Some held) new e none = by held.entry new e none
+  where
+    by : (old new : Entry) → may_change (Some old) new ≡ true → is_shared new ≡ false → standing_by old held.parent ≡ None
+    by (entry.Shared (on.Polled a)) (entry.Shared (on.Polled b)) e none = absurd (true≢false none)
+    by (entry.Shared (on.Pollable a)) (entry.Shared (on.Pollable b)) e none = absurd (true≢false none)
+    by (entry.Own (kept.Deadline a)) (entry.Own (kept.Deadline b)) e none = refl
+    by old new e none = absurd (true≢false (sym e))
 
 module _ (own : Own) (live : FinSet nat_cmp) (is : IsOwn own live) where
   made_still : (it : Entry) (parent : Option ℕ) → is_shared it ≡ false → (m : ℕ) → standing_in (made it parent own).own m ≡ standing_in own m
@@ -76,7 +83,10 @@ module _ (own : Own) (live : FinSet nat_cmp) (is : IsOwn own live) where
   stands_still (Change n it answer) m = by (is_shared it) refl
     where
       may : (b : Bool) → may_change (entry_at own n) it ≡ b → is_shared it ≡ false → standing_in (cond b (record { reply = reply.Told answer; own = with_kept own n it }) (trapped ResourceWrongType own)).own m ≡ standing_in own m
-      may true e none = absurd (true≢false (sym (changes_shared (entry_at own n) it e) ∙ none))
+      may true e none =
+          standing_kept own n it (parent_in (held_at own.table n)) m refl
+          ∙ ap (λ o. cond (nat_eq m n) o (standing_in own m)) (apart_none it (parent_in (held_at own.table n)) none)
+          ∙ cond_same (standing_in own) m n None (changes_apart (held_at own.table n) it e none)
       may false e none = refl
 
       by : (b : Bool) → is_shared it ≡ b → standing_in (act (cond b (Tell (tell.Trap ResourceWrongType)) (Change n it answer)) own).own m ≡ standing_in own m
@@ -238,15 +248,16 @@ module _ (input front : List ℕ) (shared : Shared) (guests : ℕ → Option Gue
       (subst (λ s. Does input front shared guests live told g guest (called_by guest.own done) (entry_bytes (standing_by (entry.Shared e) parent) it input now) (λ answer s'. EntryRule s it input now g n answer s')) (sym stands) does)
       (ap (λ s. entry_bytes s it input now (act done.deed guest.own).reply) (sym stands))
 
-  entry_next : (it : EntryCall) (n : ℕ) (o : Option (Held Entry)) (streams : Streams) → held_at guest.own.table n ≡ o → Goes (call.On n it) (answer_at the_rules it (record { guest = g; number = n }) (entry_in o) guest shared streams)
-  entry_next it n None streams held = apart_next it n (Tell (tell.Trap ResourceNotPresent)) streams (ap standing_at held)
-  entry_next it n (Some held) streams is_held = by held.entry held.parent is_held
+  entry_next : (clocks : Clocks) (it : EntryCall) (n : ℕ) (o : Option (Held Entry)) (streams : Streams) → held_at guest.own.table n ≡ o → Goes (call.On n it) (answer_at (the_calls clocks) it (record { guest = g; number = n }) (entry_in o) guest shared streams)
+  entry_next clocks it n None streams held = apart_next it n (Tell (tell.Trap ResourceNotPresent)) streams (ap standing_at held)
+  entry_next clocks it n (Some held) streams is_held = by held.entry held.parent is_held
     where
-      by : (e : Entry) (parent : Option ℕ) → held_at guest.own.table n ≡ Some (record { entry = e; parent = parent }) → Goes (call.On n it) (answer_at the_rules it (record { guest = g; number = n }) (Some e) guest shared streams)
+      by : (e : Entry) (parent : Option ℕ) → held_at guest.own.table n ≡ Some (record { entry = e; parent = parent }) → Goes (call.On n it) (answer_at (the_calls clocks) it (record { guest = g; number = n }) (Some e) guest shared streams)
       by (entry.Shared e) parent held = shared_next it n e parent streams held
       by (entry.Stream standard.Input e) parent held = let done : Doing InStream = called it (record { guest = g; number = n }) e (input_at guest.settings.input streams) in apart_next it n done.deed (put_input guest.settings.input done.left streams) (ap standing_at held)
       by (entry.Stream standard.Output e) parent held = let done : Doing OutStream = sent it standard.Output (record { guest = g; number = n }) e (output_at guest.settings.stdout streams) in apart_next it n done.deed (put_output guest.settings.stdout done.left streams) (ap standing_at held)
       by (entry.Stream standard.Error e) parent held = let done : Doing OutStream = sent it standard.Error (record { guest = g; number = n }) e (output_at guest.settings.stderr streams) in apart_next it n done.deed (put_output guest.settings.stderr done.left streams) (ap standing_at held)
+      by (entry.Own e) parent held = apart_next it n (awaited clocks it (record { guest = g; number = n }) e) streams (ap standing_at held)
 
   -- ---- a drop
   drop_next : (n : ℕ) (streams : Streams) → Goes (call.Drop n) (settled guest (dropped n guest.own) shared streams)
@@ -260,14 +271,14 @@ module _ (input front : List ℕ) (shared : Shared) (guests : ℕ → Option Gue
   own_next : (it : OwnCall) (deed : Deed) (streams : Streams) → Goes (call.Own it) (settled guest (act (apart deed) guest.own) shared streams)
   own_next it deed streams = other (call.Own it) (act (apart deed) guest.own) streams (follow (call.Own it) (apart deed) (λ live. refl)) (stands_still guest.own (live g) is.own deed) (λ s' e. e) refl
 
-  pub goes_next : (c : Call) (streams : Streams) → Goes c (answer_to the_rules c g guest shared streams)
-  goes_next (call.Open it how) streams = opens it how guest.settings.input streams refl
-  goes_next (call.On n it) streams = entry_next it n (held_at guest.own.table n) streams refl
-  goes_next (call.Drop n) streams = drop_next n streams
-  goes_next (call.Own it) streams = own_next it (own_deed it guest.settings guest.own) streams
+  pub goes_next : (clocks : Clocks) (c : Call) (streams : Streams) → Goes c (answer_to (the_calls clocks) c g guest shared streams)
+  goes_next clocks (call.Open it how) streams = opens it how guest.settings.input streams refl
+  goes_next clocks (call.On n it) streams = entry_next clocks it n (held_at guest.own.table n) streams refl
+  goes_next clocks (call.Drop n) streams = drop_next n streams
+  goes_next clocks (call.Own it) streams = own_next it (own_deed clocks it guest.settings guest.own) streams
 
-pub call_next : (b : Bool) (c : Call) (input front : List ℕ) (shared : Shared) (guests : ℕ → Option Guest) (live : ℕ → FinSet nat_cmp) (told : Told) (g : ℕ) (guest : Guest) (streams : Streams) → guest.ended ≡ b → guests g ≡ Some guest → IsGuest guest (live g) → ((m : ℕ) → OwnedBy (guests m) (live m)) → IsSound shared → input ≡ front ++ (shared.held ++ told.left) → let done : Answered = answer_by b the_rules c g guest shared streams in Next input front shared guests live told (λ s. call_bytes b c input s g done.reply) (λ s s'. EndedRule b c input s g done.reply s') done.shared (at_number guests g (Some done.guest)) told
-call_next true c input front shared guests live told g guest streams ended there is owned sound input_is = record {
+pub call_next : (clocks : Clocks) (b : Bool) (c : Call) (input front : List ℕ) (shared : Shared) (guests : ℕ → Option Guest) (live : ℕ → FinSet nat_cmp) (told : Told) (g : ℕ) (guest : Guest) (streams : Streams) → guest.ended ≡ b → guests g ≡ Some guest → IsGuest guest (live g) → ((m : ℕ) → OwnedBy (guests m) (live m)) → IsSound shared → input ≡ front ++ (shared.held ++ told.left) → let done : Answered = answer_by b (the_calls clocks) c g guest shared streams in Next input front shared guests live told (λ s. call_bytes b c input s g done.reply) (λ s s'. EndedRule b c input s g done.reply s') done.shared (at_number guests g (Some done.guest)) told
+call_next clocks true c input front shared guests live told g guest streams ended there is owned sound input_is = record {
   front' = front;
   live' = at_number live g (live g);
   front_is = sym (append-nil front);
@@ -276,5 +287,5 @@ call_next true c input front shared guests live told g guest streams ended there
   owned = owned_put guests live g (Some (with_own guest guest.own)) (live g) owned (record { own = is.own; fresh = λ e. absurd (true≢false e) });
   rule = (refl, (λ i. shown front shared (at_number guests g (Some (with_own guest guest.own))) (λ m. cond_same live m g (live g) refl i) told) ∙ put_same front shared guests live told g guest there);
 }
-call_next false c input front shared guests live told g guest streams ended there is owned sound input_is =
-    goes_next input front shared guests live told g guest ended there is owned sound input_is c streams
+call_next clocks false c input front shared guests live told g guest streams ended there is owned sound input_is =
+    goes_next input front shared guests live told g guest ended there is owned sound input_is clocks c streams

@@ -41,7 +41,8 @@ use Rattle.wasi_host.specs.OutStreams.{after_output_check_write, after_output_wr
 use Rattle.wasi_host.specs.Tasks.{input_turned, output_turned}
 use Rattle.wasi_host.specs.Deeds.{entry_at}
 use Rattle.wasi_host.specs.Calls.{Owner, called, sent}
-use Rattle.wasi_host.specs.Host.{Named, Guest, Streams, Host, Rules, the_rules, new_guest, configured, new_input, new_output, taken_out, put_back, input_at, put_input, output_at, put_output, answer_at, answer_to, answer_by, answer_in, after_task, guest_of, is_reader, is_writer, reads_ahead_in, writes_behind_in, task_of, names_in, names_of}
+use Rattle.wasi_host.specs.Clocks.{Clocks}
+use Rattle.wasi_host.specs.Host.{Named, Guest, Streams, Host, CallRules, the_calls, Rules, the_rules, new_guest, configured, new_input, new_output, taken_out, put_back, input_at, put_input, output_at, put_output, answer_at, answer_to, answer_by, answer_in, after_task, guest_of, is_reader, is_writer, reads_ahead_in, writes_behind_in, task_of, names_in, names_of}
 
 -- ---- a call or a turn leaves a stream of its kind
 read_kind : (size : ℕ) (s : InStream) → is_reader (Some (after_input_read s size)) ≡ is_reader (Some s)
@@ -169,44 +170,46 @@ output_kinds : (to : Output) (left : OutStream → OutStream) → ((s : OutStrea
 output_kinds (output.Named n) left keeps streams = record { reads = λ name. refl; writes = λ name. kinds_put is_writer out_stream.Closed left keeps n name streams.outputs }
 output_kinds other left keeps streams = record { reads = λ name. refl; writes = λ name. refl }
 
-at_kinds : (it : EntryCall) (at : Owner) (o : Option Entry) (guest : Guest) (s : Shared) (streams : Streams) → SameKinds (answer_at the_rules it at o guest s streams).streams streams
-at_kinds it at None guest s streams = record { reads = λ name. refl; writes = λ name. refl }
-at_kinds it at (Some (entry.Shared e)) guest s streams = record { reads = λ name. refl; writes = λ name. refl }
-at_kinds it at (Some (entry.Stream standard.Input e)) guest s streams = input_kinds guest.settings.input (λ s. (called it at e s).left) (called_kind it at e) streams
-at_kinds it at (Some (entry.Stream standard.Output e)) guest s streams = output_kinds guest.settings.stdout (λ s. (sent it standard.Output at e s).left) (sent_kind it standard.Output at e) streams
-at_kinds it at (Some (entry.Stream standard.Error e)) guest s streams = output_kinds guest.settings.stderr (λ s. (sent it standard.Error at e s).left) (sent_kind it standard.Error at e) streams
+at_kinds : (clocks : Clocks) (it : EntryCall) (at : Owner) (o : Option Entry) (guest : Guest) (s : Shared) (streams : Streams) → SameKinds (answer_at (the_calls clocks) it at o guest s streams).streams streams
+at_kinds clocks it at None guest s streams = record { reads = λ name. refl; writes = λ name. refl }
+at_kinds clocks it at (Some (entry.Shared e)) guest s streams = record { reads = λ name. refl; writes = λ name. refl }
+at_kinds clocks it at (Some (entry.Stream standard.Input e)) guest s streams = input_kinds guest.settings.input (λ s. (called it at e s).left) (called_kind it at e) streams
+at_kinds clocks it at (Some (entry.Stream standard.Output e)) guest s streams = output_kinds guest.settings.stdout (λ s. (sent it standard.Output at e s).left) (sent_kind it standard.Output at e) streams
+at_kinds clocks it at (Some (entry.Stream standard.Error e)) guest s streams = output_kinds guest.settings.stderr (λ s. (sent it standard.Error at e s).left) (sent_kind it standard.Error at e) streams
+at_kinds clocks it at (Some (entry.Own e)) guest s streams = record { reads = λ name. refl; writes = λ name. refl }
 
-to_kinds : (c : Call) (g : ℕ) (guest : Guest) (s : Shared) (streams : Streams) → SameKinds (answer_to the_rules c g guest s streams).streams streams
-to_kinds (call.On n it) g guest s streams = at_kinds it (record { guest = g; number = n }) (entry_at guest.own n) guest s streams
-to_kinds other g guest s streams = record { reads = λ name. refl; writes = λ name. refl }
+to_kinds : (clocks : Clocks) (c : Call) (g : ℕ) (guest : Guest) (s : Shared) (streams : Streams) → SameKinds (answer_to (the_calls clocks) c g guest s streams).streams streams
+to_kinds clocks (call.On n it) g guest s streams = at_kinds clocks it (record { guest = g; number = n }) (entry_at guest.own n) guest s streams
+to_kinds clocks other g guest s streams = record { reads = λ name. refl; writes = λ name. refl }
 
-by_kinds : (b : Bool) (c : Call) (g : ℕ) (guest : Guest) (s : Shared) (streams : Streams) → SameKinds (answer_by b the_rules c g guest s streams).streams streams
-by_kinds true c g guest s streams = record { reads = λ name. refl; writes = λ name. refl }
-by_kinds false c g guest s streams = to_kinds c g guest s streams
+by_kinds : (clocks : Clocks) (b : Bool) (c : Call) (g : ℕ) (guest : Guest) (s : Shared) (streams : Streams) → SameKinds (answer_by b (the_calls clocks) c g guest s streams).streams streams
+by_kinds clocks true c g guest s streams = record { reads = λ name. refl; writes = λ name. refl }
+by_kinds clocks false c g guest s streams = to_kinds clocks c g guest s streams
 
-pub call_kinds : (c : Call) (g : ℕ) (o : Option Guest) (s : Shared) (streams : Streams) → SameKinds (answer_in the_rules c g o s streams).streams streams
-call_kinds c g None s streams = record { reads = λ name. refl; writes = λ name. refl }
-call_kinds c g (Some guest) s streams = by_kinds guest.ended c g guest s streams
+pub call_kinds : (clocks : Clocks) (c : Call) (g : ℕ) (o : Option Guest) (s : Shared) (streams : Streams) → SameKinds (answer_in (the_calls clocks) c g o s streams).streams streams
+call_kinds clocks c g None s streams = record { reads = λ name. refl; writes = λ name. refl }
+call_kinds clocks c g (Some guest) s streams = by_kinds clocks guest.ended c g guest s streams
 
 pub turn_kinds : (it : StreamTask) (streams : Streams) → SameKinds (after_task the_rules it streams) streams
 turn_kinds (task.Reader name) streams = input_kinds (input.Named name) (λ s. (input_turned s).left) read_ahead_kind streams
 turn_kinds (task.Writer name) streams = output_kinds (output.Named name) (λ s. (output_turned s).left) write_behind_kind streams
 
 -- ---- a call leaves its guest's settings, whatever the rules are
-at_settings : (rules : Rules) (it : EntryCall) (at : Owner) (o : Option Entry) (guest : Guest) (s : Shared) (streams : Streams) → (answer_at rules it at o guest s streams).guest.settings ≡ guest.settings
+at_settings : (rules : CallRules) (it : EntryCall) (at : Owner) (o : Option Entry) (guest : Guest) (s : Shared) (streams : Streams) → (answer_at rules it at o guest s streams).guest.settings ≡ guest.settings
 at_settings rules it at None guest s streams = refl
 at_settings rules it at (Some (entry.Shared e)) guest s streams = refl
 at_settings rules it at (Some (entry.Stream standard.Input e)) guest s streams = refl
 at_settings rules it at (Some (entry.Stream standard.Output e)) guest s streams = refl
 at_settings rules it at (Some (entry.Stream standard.Error e)) guest s streams = refl
+at_settings rules it at (Some (entry.Own e)) guest s streams = refl
 
-to_settings : (rules : Rules) (c : Call) (g : ℕ) (guest : Guest) (s : Shared) (streams : Streams) → (answer_to rules c g guest s streams).guest.settings ≡ guest.settings
+to_settings : (rules : CallRules) (c : Call) (g : ℕ) (guest : Guest) (s : Shared) (streams : Streams) → (answer_to rules c g guest s streams).guest.settings ≡ guest.settings
 to_settings rules (call.On n it) g guest s streams = at_settings rules it (record { guest = g; number = n }) (entry_at guest.own n) guest s streams
 to_settings rules (call.Open it how) g guest s streams = refl
 to_settings rules (call.Drop n) g guest s streams = refl
 to_settings rules (call.Own it) g guest s streams = refl
 
-pub call_settings : (rules : Rules) (b : Bool) (c : Call) (g : ℕ) (guest : Guest) (s : Shared) (streams : Streams) → (answer_by b rules c g guest s streams).guest.settings ≡ guest.settings
+pub call_settings : (rules : CallRules) (b : Bool) (c : Call) (g : ℕ) (guest : Guest) (s : Shared) (streams : Streams) → (answer_by b rules c g guest s streams).guest.settings ≡ guest.settings
 call_settings rules true c g guest s streams = refl
 call_settings rules false c g guest s streams = to_settings rules c g guest s streams
 
@@ -226,11 +229,11 @@ kinds_tasks after before same standard.Output (Some guest) = same_output (writes
 kinds_tasks after before same standard.Error (Some guest) = same_output (writes_behind_in after) (writes_behind_in before) guest.settings.stderr same.writes
 
 -- a call of a guest
-pub called_task : (streams streams' : Streams) (stream : Standard) (c : Call) (g : ℕ) (o : Option Guest) (s : Shared) → is_some o ≡ true → task_of streams stream (Some (answer_in the_rules c g o s streams').guest) ≡ task_of streams stream o
-called_task streams streams' stream c g None s there = absurd (true≢false (sym there))
-called_task streams streams' standard.Input c g (Some guest) s there = ap (λ settings. input_has_task (reads_ahead_in streams) settings.input) (call_settings the_rules guest.ended c g guest s streams')
-called_task streams streams' standard.Output c g (Some guest) s there = ap (λ settings. output_has_task (writes_behind_in streams) settings.stdout) (call_settings the_rules guest.ended c g guest s streams')
-called_task streams streams' standard.Error c g (Some guest) s there = ap (λ settings. output_has_task (writes_behind_in streams) settings.stderr) (call_settings the_rules guest.ended c g guest s streams')
+pub called_task : (clocks : Clocks) (streams streams' : Streams) (stream : Standard) (c : Call) (g : ℕ) (o : Option Guest) (s : Shared) → is_some o ≡ true → task_of streams stream (Some (answer_in (the_calls clocks) c g o s streams').guest) ≡ task_of streams stream o
+called_task clocks streams streams' stream c g None s there = absurd (true≢false (sym there))
+called_task clocks streams streams' standard.Input c g (Some guest) s there = ap (λ settings. input_has_task (reads_ahead_in streams) settings.input) (call_settings (the_calls clocks) guest.ended c g guest s streams')
+called_task clocks streams streams' standard.Output c g (Some guest) s there = ap (λ settings. output_has_task (writes_behind_in streams) settings.stdout) (call_settings (the_calls clocks) guest.ended c g guest s streams')
+called_task clocks streams streams' standard.Error c g (Some guest) s there = ap (λ settings. output_has_task (writes_behind_in streams) settings.stderr) (call_settings (the_calls clocks) guest.ended c g guest s streams')
 
 -- ---- what guests name is declared
 pub record NamesStand (names : Names) (guest : Guest) : Type 0 where
