@@ -25,7 +25,6 @@ use Rattle.wasi_script.specs.declared.lines.InputDeclaration.{InputDeclaration}
 use Rattle.wasi_script.specs.declared.lines.InputDeclaration.TheVariants as declared_in
 use Rattle.wasi_script.specs.declared.lines.OutputDeclaration.{OutputDeclaration}
 use Rattle.wasi_script.specs.declared.lines.OutputDeclaration.TheVariants as declared_out
-use Rattle.wasi_script.specs.declared.lines.ClockSetting.{ClockSetting}
 use Rattle.wasi_script.specs.declared.lines.Setting.{Setting}
 use Rattle.wasi_script.specs.declared.lines.Setting.TheVariants as setting
 use Rattle.wasi_script.specs.declared.lines.EntryCall.{EntryCall}

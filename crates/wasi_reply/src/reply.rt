@@ -15,10 +15,7 @@ pub enum Told {
     /// Whether a pollable, a deadline or a wait is ready.
     Truth(bool),
     /// What a wall clock reads, or its resolution: whole seconds, and nanoseconds on top of them.
-    Time {
-        seconds: u64,
-        nanoseconds: u32,
-    },
+    Time { seconds: u64, nanoseconds: u32 },
     /// Not before the next delivery.
     Pending,
     /// The stream is at its end.

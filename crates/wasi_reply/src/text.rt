@@ -29,12 +29,7 @@ fn push_number(text: &mut Vec<u8>, word: &[u8], number: u64) -> Result<(), OutOf
     Ok(())
 }
 
-fn push_numbers(
-    text: &mut Vec<u8>,
-    word: &[u8],
-    first: u64,
-    second: u64,
-) -> Result<(), OutOfMemory>
+fn push_numbers(text: &mut Vec<u8>, word: &[u8], first: u64, second: u64) -> Result<(), OutOfMemory>
     ensures ok { OnOk result (text.new.items ≡ text.old.items ++ worded (word.now, Field.Number first ∷ Field.Number second ∷ [])) }
     ensures err { OnErr result (take (length text.old.items) text.new.items ≡ text.old.items) }
 {

@@ -42,7 +42,7 @@ use Rattle.wasi_host.specs.Tasks.{input_turned, output_turned}
 use Rattle.wasi_host.specs.Deeds.{entry_at}
 use Rattle.wasi_host.specs.Calls.{Owner, called, sent}
 use Rattle.wasi_host.specs.Clocks.{Clocks}
-use Rattle.wasi_host.specs.Host.{Named, Guest, Streams, Host, CallRules, the_calls, Rules, the_rules, new_guest, configured, new_input, new_output, taken_out, put_back, input_at, put_input, output_at, put_output, answer_at, answer_to, answer_by, answer_in, after_task, guest_of, is_reader, is_writer, reads_ahead_in, writes_behind_in, task_of, names_in, names_of}
+use Rattle.wasi_host.specs.Host.{Named, Guest, Streams, Host, CallRules, the_calls, the_rules, new_guest, configured, new_input, new_output, taken_out, put_back, input_at, put_input, output_at, put_output, answer_at, answer_to, answer_by, answer_in, after_task, guest_of, is_reader, is_writer, reads_ahead_in, writes_behind_in, task_of, names_in, names_of}
 
 -- ---- a call or a turn leaves a stream of its kind
 read_kind : (size : ℕ) (s : InStream) → is_reader (Some (after_input_read s size)) ≡ is_reader (Some s)

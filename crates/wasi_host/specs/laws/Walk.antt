@@ -30,7 +30,7 @@ use Rattle.wasi_host.specs.Deeds.{Own, entry_at, act, apart}
 use Rattle.wasi_host.specs.Tasks.{output_turned}
 use Rattle.wasi_host.specs.Calls.{Owner, sent, called}
 use Rattle.wasi_host.specs.Clocks.{Clocks}
-use Rattle.wasi_host.specs.Host.{Named, the_calls, the_rules, Guest, Streams, Host, new_output, taken_out, put_back, output_at, put_output, input_at, answer_at, answer_to, answer_by, answer_in, guest_of, reply_to, host_after}
+use Rattle.wasi_host.specs.Host.{Named, the_calls, Guest, Streams, Host, new_output, taken_out, put_back, output_at, put_output, input_at, answer_at, answer_to, answer_by, answer_in, guest_of, reply_to, host_after}
 use Rattle.wasi_host.specs.View.{output_names}
 use Rattle.wasi_host.specs.Promises.{entry_call_on, guest_call_on, step_call_on}
 use Rattle.wasi_host.specs.laws.Reach.{found_still, input_apart}

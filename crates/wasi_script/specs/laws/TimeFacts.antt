@@ -1,8 +1,7 @@
 -- Which numbers make a time.
-use Rattle.std.proofs.Common.{◌≡◌, ℕ, ◌<◌, Bool, true, false, Some, refl, ◌∙◌, sym, true≢false, lt-ltb, ltb-true}
+use Rattle.std.proofs.Common.{◌≡◌, ℕ, ◌<◌, Bool, true, false, Some, refl, sym, true≢false, lt-ltb, ltb-true}
 use Rattle.std.specs.Prelude.{nat_lt}
 use native.Mathlib.Bridge.{le_prop}
-use Rattle.wasi_clocks.specs.declared.wall_times.WallTime.{WallTime}
 use Rattle.wasi_script.specs.Times.{time_by, wall_time}
 
 pub time_is : (seconds nanoseconds : ℕ) (below : nanoseconds < 1000000000) → wall_time seconds nanoseconds ≡ Some (record { seconds = seconds; nanoseconds = nanoseconds; in_second = below })

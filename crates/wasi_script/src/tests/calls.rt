@@ -477,7 +477,14 @@ fn lines_that_set_a_clock(rt: HostRuntime) -> Result<(), Fail> {
             _ => panic!(rt; "{text}"),
         }
     }
-    for text in ["clock", "clock mono", "clock mono 1 2", "clock wall 1", "clock wall 0 1000000000", "clock moon 1"] {
+    for text in [
+        "clock",
+        "clock mono",
+        "clock mono 1 2",
+        "clock wall 1",
+        "clock wall 0 1000000000",
+        "clock moon 1",
+    ] {
         assert_eq!(rt; bad_line(&rt, rt.alloc(), text)?, Some(1), "{text}");
     }
     Ok(())
