@@ -1,6 +1,6 @@
 use crate::declared::Declared;
 use crate::fields::Field;
-use crate::forms::{call_fields, line_fields, turn_fields};
+use crate::forms::{call_fields, clock_fields, line_fields, turn_fields};
 use crate::reason::Reason;
 use crate::words::{Flaw, Words};
 
@@ -15,6 +15,7 @@ pub fn check_line(line: &[u8], declared: &Declared) -> Result<(), Flaw> {
     match word.text {
         b"call" => check_call(&mut words, declared)?,
         b"turn" => check_turn(&mut words, declared)?,
+        b"clock" => check_clock(&mut words, declared)?,
         _ => {}
     }
     words.expect_end()
@@ -29,6 +30,12 @@ fn check_call(words: &mut Words, declared: &Declared) -> Result<(), Flaw> {
 fn check_turn(words: &mut Words, declared: &Declared) -> Result<(), Flaw> {
     let kind = words.expect_word()?;
     let fields = turn_fields(kind.text).ok_or(kind.flaw(Reason::NoSuchTask))?;
+    check_fields(fields, words, declared)
+}
+
+fn check_clock(words: &mut Words, declared: &Declared) -> Result<(), Flaw> {
+    let clock = words.expect_word()?;
+    let fields = clock_fields(clock.text).ok_or(clock.flaw(Reason::NoSuchClock))?;
     check_fields(fields, words, declared)
 }
 

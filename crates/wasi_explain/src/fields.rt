@@ -31,6 +31,8 @@ pub enum Field {
     ReadPlan,
     WritePlan,
     Number,
+    /// Below a second.
+    Nanoseconds,
     Room,
     Budget,
     Capacity,
@@ -55,6 +57,7 @@ impl Field {
             Field::ReadPlan => check_read_plan(word),
             Field::WritePlan => check_write_plan(word),
             Field::Number => check_number(word, 0, u64::MAX),
+            Field::Nanoseconds => check_number(word, 0, 999_999_999),
             Field::Room => check_number(word, 0, MOST_BYTES),
             Field::Budget => check_number(word, 1, MOST_BYTES),
             Field::Capacity => check_number(word, 1, 65536),

@@ -4,7 +4,8 @@ use crate::declared::Stream;
 use crate::fields::Field;
 
 /// What the words of a line after its first one have to be. After `call G` stand the name of a call
-/// and its words, and after `turn` the kind of the task and its words.
+/// and its words, after `turn` the kind of the task and its words, and after `clock` what is set and
+/// its words.
 pub fn line_fields(word: &[u8]) -> Option<&'static [Field]> {
     match word {
         b"pipe" => Some(&[Field::NewInput, Field::DeclaredBytes]),
@@ -22,7 +23,7 @@ pub fn line_fields(word: &[u8]) -> Option<&'static [Field]> {
         b"stdout" | b"stderr" => Some(&[Field::Configured, Field::Output]),
         b"capacity" => Some(&[Field::Configured, Field::Capacity]),
         b"call" => Some(&[Field::Caller]),
-        b"capture" | b"deliver" | b"turn" => Some(&[]),
+        b"capture" | b"deliver" | b"turn" | b"clock" => Some(&[]),
         _ => None,
     }
 }
@@ -36,6 +37,10 @@ pub fn call_fields(name: &[u8]) -> Option<&'static [Field]> {
         b"write" | b"poll-write" => Some(&[Field::Number, Field::Bytes]),
         b"check-write" | b"flush" | b"poll-flush" => Some(&[Field::Number]),
         b"subscribe" | b"ready" | b"block" | b"drop" => Some(&[Field::Number]),
+        b"wall-now" | b"wall-resolution" | b"system-now" | b"system-resolution" => Some(&[]),
+        b"mono-now" | b"mono-resolution" => Some(&[]),
+        b"subscribe-instant" | b"subscribe-duration" => Some(&[Field::Number]),
+        b"wait-until" | b"wait-for" => Some(&[Field::Number]),
         b"exit" => Some(&[Field::ExitStatus]),
         b"exit-code" => Some(&[Field::ExitCode]),
         _ => None,
@@ -47,6 +52,15 @@ pub fn turn_fields(kind: &[u8]) -> Option<&'static [Field]> {
     match kind {
         b"in" => Some(&[Field::Task(Stream::Input)]),
         b"out" => Some(&[Field::Task(Stream::Output)]),
+        _ => None,
+    }
+}
+
+/// What the words after what a `clock` line sets have to be.
+pub fn clock_fields(clock: &[u8]) -> Option<&'static [Field]> {
+    match clock {
+        b"mono" | b"mono-res" => Some(&[Field::Number]),
+        b"wall" | b"wall-res" => Some(&[Field::Number, Field::Nanoseconds]),
         _ => None,
     }
 }

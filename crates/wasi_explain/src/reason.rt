@@ -17,6 +17,8 @@ pub enum Reason {
     NoSuchCall,
     #[error("no such task")]
     NoSuchTask,
+    #[error("no such clock")]
+    NoSuchClock,
     #[error("word missing")]
     MissingWord,
     #[error("word too many")]

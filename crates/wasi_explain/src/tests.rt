@@ -373,3 +373,31 @@ fn a_bad_line_is_told_in_plain_words(rt: HostRuntime) -> Result<(), Fail> {
     }
     Ok(())
 }
+
+#[test]
+fn clocks(rt: HostRuntime) -> Result<(), Fail> {
+    let nanoseconds = Reason::OutOfRange {
+        least: 0,
+        most: 999_999_999,
+    };
+    let number = Reason::OutOfRange {
+        least: 0,
+        most: u64::MAX,
+    };
+    let bad_lines = [
+        ("clock", 6, Reason::MissingWord),
+        ("clock sun 1", 7, Reason::NoSuchClock),
+        ("clock mono", 11, Reason::MissingWord),
+        ("clock mono 1 2", 14, Reason::ExtraWord),
+        ("clock mono-res 18446744073709551616", 16, number),
+        ("clock wall 1", 13, Reason::MissingWord),
+        ("clock wall 1 1000000000", 14, nanoseconds),
+        ("clock wall-res 0 -", 18, Reason::NotANumber),
+        ("call 0 wall-now 1", 17, Reason::ExtraWord),
+        ("call 0 mono-resolution 1", 24, Reason::ExtraWord),
+        ("call 0 subscribe-instant", 25, Reason::MissingWord),
+        ("call 0 wait-for x", 17, Reason::NotANumber),
+    ];
+    let before = "clock wall 18446744073709551615 999999999\nguest 0 empty\n";
+    check_lines(&rt, rt.alloc(), before, &bad_lines)
+}

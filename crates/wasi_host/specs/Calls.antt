@@ -8,6 +8,9 @@ use Rattle.wasi_base.specs.declared.stream_error.StreamError.TheVariants as erro
 use Rattle.wasi_base.specs.declared.trap_text.TrapText.TheVariants.{ResourceWrongType}
 use Rattle.wasi_stdin.specs.Shared.{Shared, Reading, Skipped, Polling, skipped, reading_of, after_read, poll_of, after_poll, wait_after_poll, is_ready, after_ready, block_of, after_block, wait_after_block}
 use Rattle.wasi_stdin.specs.Shared as stdin
+use Rattle.wasi_clocks.specs.Deadlines.{deadline_at, deadline_after, deadline_is_ready, polled as polled_deadline}
+use Rattle.wasi_clocks.specs.Waits.{wait_to, wait_after, wait_is_ready}
+use Rattle.wasi_clocks.specs.Instants.{instant_of_wall, nanoseconds_in}
 use Rattle.wasi_script.specs.declared.lines.Input.{Input}
 use Rattle.wasi_script.specs.declared.lines.Input.TheVariants as input
 use Rattle.wasi_script.specs.declared.lines.Standard.{Standard}
@@ -16,6 +19,8 @@ use Rattle.wasi_script.specs.declared.lines.Access.{Access}
 use Rattle.wasi_script.specs.declared.lines.Access.TheVariants as access
 use Rattle.wasi_script.specs.declared.lines.EntryCall.{EntryCall}
 use Rattle.wasi_script.specs.declared.lines.EntryCall.TheVariants as call
+use Rattle.wasi_script.specs.declared.lines.ClockCall.{ClockCall}
+use Rattle.wasi_script.specs.declared.lines.ClockCall.TheVariants as clock
 use Rattle.wasi_script.specs.declared.lines.OwnCall.{OwnCall}
 use Rattle.wasi_script.specs.declared.lines.OwnCall.TheVariants as own
 use Rattle.wasi_script.specs.declared.lines.ExitStatus.{ExitStatus}
@@ -28,6 +33,8 @@ use Rattle.wasi_host.specs.declared.entry.SharedEntry.{SharedEntry}
 use Rattle.wasi_host.specs.declared.entry.SharedEntry.TheVariants.{Reader, Polled, Pollable}
 use Rattle.wasi_host.specs.declared.entry.StreamEntry.{StreamEntry}
 use Rattle.wasi_host.specs.declared.entry.StreamEntry.TheVariants as on
+use Rattle.wasi_host.specs.declared.entry.OwnEntry.{OwnEntry}
+use Rattle.wasi_host.specs.declared.entry.OwnEntry.TheVariants as kept
 use Rattle.wasi_host.specs.declared.stream.InStream.{InStream}
 use Rattle.wasi_host.specs.declared.stream.InStream.TheVariants as in_stream
 use Rattle.wasi_host.specs.declared.stream.OutStream.{OutStream}
@@ -35,6 +42,7 @@ use Rattle.wasi_host.specs.declared.stream.OutStream.TheVariants as out_stream
 use Rattle.wasi_host.specs.declared.deed.Deed.{Deed}
 use Rattle.wasi_host.specs.declared.deed.Deed.TheVariants.{Tell, Make, Change}
 use Rattle.wasi_host.specs.Deeds.{Own}
+use Rattle.wasi_host.specs.Clocks.{Clocks, time_told, instant_told, count_told}
 pub use Rattle.wasi_host.specs.declared.settings.Settings.{Settings}
 pub use Rattle.wasi_cli.specs.declared.owner.Owner.{Owner}
 use Rattle.wasi_cli.specs.declared.handle.StdioHandle.TheVariants.{Ready}
@@ -148,11 +156,33 @@ sent call.Ready to at on.Pollable s = doing (Tell (told.Truth (output_is_ready s
 sent call.Block to at on.Pollable s = doing (Tell (told.Truth (output_block s at))) (after_output_block s at)
 sent other to at it s = doing mistaken s
 
--- ---- calls on what a guest owns alone
+-- ---- calls on an entry that is on no stream: a poll of what its guest waits for
+abbrev pub awaited : Clocks → EntryCall → Owner → OwnEntry → Deed
+awaited clocks call.Ready at (kept.Deadline it) = Change at.number (entry.Own (kept.Deadline (polled_deadline it))) (told.Truth (deadline_is_ready it clocks.monotonic_now))
+awaited clocks call.Block at (kept.Deadline it) = Change at.number (entry.Own (kept.Deadline (polled_deadline it))) (told.Truth (deadline_is_ready it clocks.monotonic_now))
+awaited clocks call.Ready at (kept.Wait it) = Tell (told.Truth (wait_is_ready it clocks.monotonic_now))
+awaited clocks call.Block at (kept.Wait it) = Tell (told.Truth (wait_is_ready it clocks.monotonic_now))
+awaited clocks other at it = mistaken
+
+-- ---- calls on the clocks
+abbrev pub clocked : Clocks → ClockCall → Deed
+clocked clocks clock.WallNow = Tell (time_told clocks.wall_now)
+clocked clocks clock.WallResolution = Tell (time_told clocks.wall_resolution)
+clocked clocks clock.SystemNow = Tell (instant_told (instant_of_wall clocks.wall_now))
+clocked clocks clock.SystemResolution = Tell (count_told (nanoseconds_in clocks.wall_resolution))
+clocked clocks clock.MonotonicNow = Tell (told.Count clocks.monotonic_now)
+clocked clocks clock.MonotonicResolution = Tell (told.Count clocks.monotonic_resolution)
+clocked clocks (clock.SubscribeInstant when) = Make (entry.Own (kept.Deadline (deadline_at clocks.monotonic_now when))) None
+clocked clocks (clock.SubscribeDuration duration) = Make (entry.Own (kept.Deadline (deadline_after clocks.monotonic_now duration))) None
+clocked clocks (clock.WaitUntil when) = Make (entry.Own (kept.Wait (wait_to clocks.monotonic_now when))) None
+clocked clocks (clock.WaitFor duration) = Make (entry.Own (kept.Wait (wait_after clocks.monotonic_now duration))) None
+
+-- ---- calls on no entry and no stream
 abbrev pub exit_status : ExitStatus → ℕ
 exit_status exit.Ok = 0
 exit_status exit.Err = 1
 
-abbrev pub owned : OwnCall → Settings → Own → Deed
-owned (own.Exit status) settings it = Tell (told.Exit (exit_status status))
-owned (own.ExitCode code) settings it = Tell (told.Exit code)
+abbrev pub owned : Clocks → OwnCall → Settings → Own → Deed
+owned clocks (own.Exit status) settings it = Tell (told.Exit (exit_status status))
+owned clocks (own.ExitCode code) settings it = Tell (told.Exit code)
+owned clocks (own.Clock call) settings it = clocked clocks call

@@ -7,6 +7,7 @@ use Rattle.wasi_host.specs.declared.entry.Entry.{Entry}
 use Rattle.wasi_host.specs.declared.stream.InStream.{InStream}
 use Rattle.wasi_host.specs.declared.stream.OutStream.{OutStream}
 use Rattle.wasi_host.specs.Deeds.{Own}
+use Rattle.wasi_host.specs.Clocks.{Clocks}
 use Rattle.wasi_host.specs.Calls.{Settings}
 use Rattle.wasi_host.specs.Host.{Named, Guest, Streams, Host}
 
@@ -27,7 +28,7 @@ streams_code input output =
     code_by (Named InStream × Named OutStream) (coded× (named_code input) (named_code output))
     (λ s. (s.inputs, s.outputs)) (λ p. record { inputs = p.0; outputs = p.1 }) (λ _. refl)
 
-abbrev pub host_code : Coded Shared → Coded Guest → Coded Streams → Coded Host
-host_code shared guest streams =
-    code_by ((Shared × List (Option Guest)) × Streams) (coded× (coded× shared (coded_list (coded_option guest))) streams)
-    (λ h. ((h.shared, h.guests), h.streams)) (λ p. record { shared = p.0.0; guests = p.0.1; streams = p.1 }) (λ _. refl)
+abbrev pub host_code : Coded Shared → Coded Guest → Coded Streams → Coded Clocks → Coded Host
+host_code shared guest streams clocks =
+    code_by ((Shared × List (Option Guest)) × (Streams × Clocks)) (coded× (coded× shared (coded_list (coded_option guest))) (coded× streams clocks))
+    (λ h. ((h.shared, h.guests), (h.streams, h.clocks))) (λ p. record { shared = p.0.0; guests = p.0.1; streams = p.1.0; clocks = p.1.1 }) (λ _. refl)

@@ -13,6 +13,7 @@ use Rattle.wasi_host.specs.declared.entry.Entry.{Entry}
 use Rattle.wasi_host.specs.declared.entry.Entry.TheVariants as entry
 use Rattle.wasi_host.specs.declared.entry.SharedEntry.TheVariants as shared
 use Rattle.wasi_host.specs.declared.entry.StreamEntry.TheVariants as stream
+use Rattle.wasi_host.specs.declared.entry.OwnEntry.TheVariants as kept
 use Rattle.wasi_host.specs.declared.deed.Deed.{Deed}
 use Rattle.wasi_host.specs.declared.deed.Deed.TheVariants.{Tell, Make, Change}
 
@@ -59,6 +60,7 @@ abbrev pub may_change : Option Entry → Entry → Bool
 may_change (Some (entry.Shared (shared.Polled old))) (entry.Shared (shared.Polled new)) = true
 may_change (Some (entry.Shared (shared.Pollable old))) (entry.Shared (shared.Pollable new)) = true
 may_change (Some (entry.Stream to (stream.Polled old))) (entry.Stream on (stream.Polled new)) = same_standard to on
+may_change (Some (entry.Own (kept.Deadline old))) (entry.Own (kept.Deadline new)) = true
 may_change old new = false
 
 -- ---- what is done

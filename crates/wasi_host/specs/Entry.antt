@@ -5,6 +5,7 @@ use Rattle.wasi_script.specs.declared.lines.Standard.TheVariants as standard
 use Rattle.wasi_host.specs.declared.entry.SharedEntry.TheVariants as shared
 use Rattle.wasi_host.specs.declared.entry.StreamEntry.{StreamEntry}
 use Rattle.wasi_host.specs.declared.entry.StreamEntry.TheVariants as stream
+use Rattle.wasi_host.specs.declared.entry.OwnEntry.TheVariants as own
 use Rattle.wasi_host.specs.declared.entry.Entry.{Entry}
 use Rattle.wasi_host.specs.declared.entry.Entry.TheVariants as entry
 
@@ -20,3 +21,5 @@ kind_of (entry.Shared shared.Reader) = 0
 kind_of (entry.Shared (shared.Polled wait)) = 1
 kind_of (entry.Shared (shared.Pollable wait)) = 2
 kind_of (entry.Stream to it) = stream_kind to it
+kind_of (entry.Own (own.Deadline it)) = 5
+kind_of (entry.Own (own.Wait it)) = 6

@@ -48,6 +48,7 @@ use Rattle.wasi_host.specs.declared.entry.Entry.{Entry}
 use Rattle.wasi_host.specs.declared.entry.Entry.TheVariants as entry
 use Rattle.wasi_host.specs.declared.entry.SharedEntry.{SharedEntry}
 use Rattle.wasi_host.specs.declared.entry.StreamEntry.{StreamEntry}
+use Rattle.wasi_host.specs.declared.entry.OwnEntry.{OwnEntry}
 use Rattle.wasi_host.specs.declared.stream.InStream.{InStream}
 use Rattle.wasi_host.specs.declared.stream.InStream.TheVariants as in_stream
 use Rattle.wasi_host.specs.declared.stream.OutStream.{OutStream}
@@ -61,7 +62,8 @@ use Rattle.wasi_host.specs.InStreams.{input_without}
 use Rattle.wasi_host.specs.OutStreams.{output_without}
 use Rattle.wasi_host.specs.Deeds.{Own, Done, trapped, entry_at, act, dropped, apart}
 use Rattle.wasi_host.specs.Tasks.{Turned, input_turned, output_turned}
-use Rattle.wasi_host.specs.Calls.{Settings, Owner, Doing, opened, asked, called, sent, owned}
+use Rattle.wasi_host.specs.Clocks.{Clocks, new_clocks, clocks_after}
+use Rattle.wasi_host.specs.Calls.{Settings, Owner, Doing, opened, asked, called, sent, awaited, owned}
 
 -- a guest: what configuration lines say of it, what it owns, and whether it was called and whether it ended
 pub record Guest : Type 0 where
@@ -130,17 +132,19 @@ leave_entry who other settings streams = streams
 abbrev pub leave_all : Leaver → Settings → Streams → Streams
 leave_all who settings streams = leave_output who settings.stderr (leave_output who settings.stdout (leave_input who settings.input streams))
 
--- ---- the host: the shared input, the guests by their numbers, and the streams
+-- ---- the host: the shared input, the guests by their numbers, the streams, and the clocks
 pub record Host : Type 0 where
   pub shared : Shared
   pub guests : List (Option Guest)
   pub streams : Streams
+  pub clocks : Clocks
 
 abbrev pub new_host : Host
 new_host = record {
   shared = record { mode = mode.Idle; held = []; captured = None; deliveries = 0 };
   guests = replicate 64 None;
   streams = record { inputs = []; outputs = [] };
+  clocks = new_clocks;
 }
 
 -- the answer to a call, with what becomes of its guest, of the shared input and of the streams
@@ -161,18 +165,26 @@ left_guest guest reply own = record guest { own = left_own reply own; was_called
 abbrev pub settled : Guest → Done → Shared → Streams → Answered
 settled guest done shared streams = record { reply = done.reply; guest = left_guest guest done.reply done.own; shared = shared; streams = streams }
 
--- The rules of calls, by what their entry is on, and those of the turns of tasks. What a call or a turn reaches, and how
--- a deed is done, is the host's matter, whatever its rules are.
-pub record Rules : Type 0 where
+-- The rules of calls, by what their entry is on. What a call reaches, and how a deed is done, is the host's matter,
+-- whatever its rules are.
+pub record CallRules : Type 0 where
   pub asked : EntryCall → Owner → SharedEntry → Shared → Doing Shared
   pub called : EntryCall → Owner → StreamEntry → InStream → Doing InStream
   pub sent : EntryCall → Standard → Owner → StreamEntry → OutStream → Doing OutStream
+  pub awaited : EntryCall → Owner → OwnEntry → Deed
   pub owned : OwnCall → Settings → Own → Deed
+
+-- those of calls, by what the clocks read, and those of the turns of tasks
+pub record Rules : Type 0 where
+  pub calls : Clocks → CallRules
   pub read_ahead : InStream → Turned InStream
   pub written_behind : OutStream → Turned OutStream
 
+abbrev pub the_calls : Clocks → CallRules
+the_calls clocks = record { asked = asked; called = called; sent = sent; awaited = awaited clocks; owned = owned clocks }
+
 abbrev pub the_rules : Rules
-the_rules = record { asked = asked; called = called; sent = sent; owned = owned; read_ahead = input_turned; written_behind = output_turned }
+the_rules = record { calls = the_calls; read_ahead = input_turned; written_behind = output_turned }
 
 -- a call on an entry of the shared input, on one of the guest's input, and on one of its outputs
 abbrev pub on_shared : Doing Shared → Guest → Streams → Answered
@@ -185,15 +197,16 @@ abbrev pub on_output : Doing OutStream → Output → Guest → Shared → Strea
 on_output it to guest shared streams = settled guest (act (apart it.deed) guest.own) shared (put_output to it.left streams)
 
 -- by the entry at a number
-abbrev pub answer_at : Rules → EntryCall → Owner → Option Entry → Guest → Shared → Streams → Answered
+abbrev pub answer_at : CallRules → EntryCall → Owner → Option Entry → Guest → Shared → Streams → Answered
 answer_at rules it at None guest shared streams = settled guest (trapped ResourceNotPresent guest.own) shared streams
 answer_at rules it at (Some (entry.Shared on)) guest shared streams = on_shared (rules.asked it at on shared) guest streams
 answer_at rules it at (Some (entry.Stream standard.Input on)) guest shared streams = on_input (rules.called it at on (input_at guest.settings.input streams)) guest.settings.input guest shared streams
 answer_at rules it at (Some (entry.Stream standard.Output on)) guest shared streams = on_output (rules.sent it standard.Output at on (output_at guest.settings.stdout streams)) guest.settings.stdout guest shared streams
 answer_at rules it at (Some (entry.Stream standard.Error on)) guest shared streams = on_output (rules.sent it standard.Error at on (output_at guest.settings.stderr streams)) guest.settings.stderr guest shared streams
+answer_at rules it at (Some (entry.Own on)) guest shared streams = settled guest (act (apart (rules.awaited it at on)) guest.own) shared streams
 
 -- by the kind of the call
-abbrev pub answer_to : Rules → Call → ℕ → Guest → Shared → Streams → Answered
+abbrev pub answer_to : CallRules → Call → ℕ → Guest → Shared → Streams → Answered
 answer_to rules (call.Open it how) g guest shared streams = settled guest (act (Make (opened guest.settings.input it how) None) guest.own) shared streams
 answer_to rules (call.On number it) g guest shared streams = answer_at rules it (record { guest = g; number = number }) (entry_at guest.own number) guest shared streams
 answer_to rules (call.Drop number) g guest shared streams = settled guest (dropped number guest.own) shared (leave_entry (leaver.Entry (record { guest = g; number = number })) (entry_at guest.own number) guest.settings streams)
@@ -207,7 +220,7 @@ abbrev pub passed_on : ℕ → Settings → Answered → Answered
 passed_on g settings done = record done { streams = left_streams done.reply g settings done.streams }
 
 -- a guest that ended is told so, and nothing else happens
-abbrev pub answer_by : Bool → Rules → Call → ℕ → Guest → Shared → Streams → Answered
+abbrev pub answer_by : Bool → CallRules → Call → ℕ → Guest → Shared → Streams → Answered
 answer_by true rules it g guest shared streams = record { reply = reply.Ended; guest = record guest { was_called = true }; shared = shared; streams = streams }
 answer_by false rules it g guest shared streams = passed_on g guest.settings (answer_to rules it g guest shared streams)
 
@@ -215,18 +228,18 @@ answer_by false rules it g guest shared streams = passed_on g guest.settings (an
 abbrev pub guest_of : Host → ℕ → Option Guest
 guest_of host guest = get_or host.guests guest None
 
-abbrev pub answer_in : Rules → Call → ℕ → Option Guest → Shared → Streams → Answered
+abbrev pub answer_in : CallRules → Call → ℕ → Option Guest → Shared → Streams → Answered
 answer_in rules it g None shared streams = record { reply = reply.Ended; guest = new_guest input.Empty; shared = shared; streams = streams }
 answer_in rules it g (Some guest) shared streams = answer_by guest.ended rules it g guest shared streams
 
-abbrev pub answer : Rules → Call → ℕ → Host → Answered
+abbrev pub answer : CallRules → Call → ℕ → Host → Answered
 answer rules it g host = answer_in rules it g (guest_of host g) host.shared host.streams
 
 -- the host after a guest's call, by these rules
 abbrev pub put_answered : Host → ℕ → Answered → Host
-put_answered host g done = record { shared = done.shared; guests = set host.guests g (Some done.guest); streams = done.streams }
+put_answered host g done = record host { shared = done.shared; guests = set host.guests g (Some done.guest); streams = done.streams }
 
-abbrev pub called_in : Rules → Call → ℕ → Host → Host
+abbrev pub called_in : CallRules → Call → ℕ → Host → Host
 called_in rules it g host = put_answered host g (answer rules it g host)
 
 -- ---- what lines declare and configure
@@ -290,7 +303,7 @@ after_task rules (task.Writer name) streams = put_output (output.Named name) (ru
 
 -- ---- the reply to a step, and the host after it; a delivery gives `given`
 abbrev pub reply_by : Rules → Line → Host → Given → Reply
-reply_by rules (line.Call g it) host given = (answer rules it g host).reply
+reply_by rules (line.Call g it) host given = (answer (rules.calls host.clocks) it g host).reply
 reply_by rules (line.Worker it) host given = reply.Worked (turn_told it host.shared given)
 reply_by rules (line.Turn it) host given = reply.Worked (task_told rules it host.streams)
 reply_by rules other host given = reply.Told told.Ok
@@ -300,9 +313,10 @@ host_by rules (line.Input name it) host given = with_input name (new_input it) h
 host_by rules (line.Output name it) host given = with_output name (new_output it) host
 host_by rules (line.Guest g input) host given = with_guest g (Some (new_guest input)) host
 host_by rules (line.Configure g it) host given = with_guest g (option_map (configured it) (guest_of host g)) host
-host_by rules (line.Call g it) host given = called_in rules it g host
+host_by rules (line.Call g it) host given = called_in (rules.calls host.clocks) it g host
 host_by rules (line.Worker it) host given = record host { shared = after_turn it host.shared given }
 host_by rules (line.Turn it) host given = record host { streams = after_task rules it host.streams }
+host_by rules (line.Clock it) host given = record host { clocks = clocks_after it host.clocks }
 
 abbrev pub reply_to : Line → Host → Given → Reply
 reply_to = reply_by the_rules

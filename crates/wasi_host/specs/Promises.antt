@@ -30,7 +30,7 @@ use Rattle.wasi_host.specs.declared.stream.OutStream.TheVariants as out_stream
 use Rattle.wasi_host.specs.OutStreams.{taken_of}
 use Rattle.wasi_host.specs.Deeds.{Own, entry_at, act, apart}
 use Rattle.wasi_host.specs.Calls.{Settings, Owner, sent}
-use Rattle.wasi_host.specs.Host.{Guest, Host, Rules, host_end, new_host, step_reply, step_host, step_told, guest_of, answer, called_in, Named, taken_out, put_back}
+use Rattle.wasi_host.specs.Host.{Guest, Host, CallRules, host_end, new_host, step_reply, step_host, step_told, guest_of, answer, called_in, Named, taken_out, put_back}
 use Rattle.wasi_host.specs.View.{input_names, output_names, view, IsApart, replies_seen, outputs_seen, GuestsAreAlone}
 use Rattle.wasi_host.specs.Transcript.{ShowsRun, transcript, told_after_run, outputs_of}
 
@@ -70,17 +70,18 @@ is_on_shared (Some (entry.Shared it)) = true
 is_on_shared other = false
 
 -- What a call of a guest leaves of all else: the other guests, its own settings, each stream but those that it reaches,
--- and the shared input, unless it is on that.
+-- the clocks, and the shared input, unless it is on that.
 pub record InReach (answer : Reply) (on : Option Entry) (host after : Host) (g : ℕ) (guest : Guest) : Type 0 where
   pub others : (m : ℕ) → (m ≡ g → ⊥) → guest_of after m ≡ guest_of host m
   pub settings : option_map (λ (guest : Guest). guest.settings) (guest_of after g) ≡ Some guest.settings
   pub inputs : (name : List ℕ) → reaches_input answer on guest.settings name ≡ false → lookup (bytes_eq name) after.streams.inputs ≡ lookup (bytes_eq name) host.streams.inputs
   pub outputs : (name : List ℕ) → reaches_output answer on guest.settings name ≡ false → lookup (bytes_eq name) after.streams.outputs ≡ lookup (bytes_eq name) host.streams.outputs
+  pub clocks : after.clocks ≡ host.clocks
   pub shared : is_on_shared on ≡ false → after.shared ≡ host.shared
 
 -- whatever the rules of calls are
 abbrev pub CallsStayInReach : Type 0
-CallsStayInReach = (rules : Rules) (it : Call) (g : ℕ) (host : Host) (guest : Guest) → guest_of host g ≡ Some guest → InReach (answer rules it g host).reply (entry_of it guest) host (called_in rules it g host) g guest
+CallsStayInReach = (rules : CallRules) (it : Call) (g : ℕ) (host : Host) (guest : Guest) → guest_of host g ≡ Some guest → InReach (answer rules it g host).reply (entry_of it guest) host (called_in rules it g host) g guest
 
 -- A stream that is put back as it was taken out leaves all streams as they were, and what was put back is what is taken
 -- out next.

@@ -47,8 +47,8 @@ is_guest g k = nat_eq k g
 abbrev pub is_other : ℕ → ℕ → Bool
 is_other g k = not (nat_eq k g)
 
--- ---- what a guest sees: the lines that declare its names, the turns of their tasks, and the lines that configure or call
--- it, in order
+-- ---- what a guest sees: the lines that declare its names, the turns of their tasks, the lines that configure or call it,
+-- and those that set a clock, in order
 abbrev pub is_task_of : (List ℕ → Bool) → StreamTask → Bool
 is_task_of mine (task.Reader name) = mine name
 is_task_of mine (task.Writer name) = mine name
@@ -61,6 +61,7 @@ is_seen mine g (line.Configure k it) = is_guest g k
 is_seen mine g (line.Call k it) = is_guest g k
 is_seen mine g (line.Worker it) = false
 is_seen mine g (line.Turn it) = is_task_of mine it
+is_seen mine g (line.Clock it) = true
 
 abbrev pub view : ℕ → List Line → List Line
 view g steps = filter (is_seen (names_by (is_guest g) steps) g) steps

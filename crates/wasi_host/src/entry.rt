@@ -3,6 +3,7 @@ ghost use Rattle.wasi_host.specs.Entry.{stream_kind};
 ghost use Rattle.wasi_host.specs.Deeds.{stands_alone, goes_under, may_change, same_standard, is_shared};
 
 use wasi_cli::StdoutHandle;
+use wasi_clocks::{Deadline, Wait3};
 use wasi_script::Standard;
 use wasi_stdin::Wait;
 use wasi_table::Kinded;
@@ -30,6 +31,15 @@ pub enum StreamEntry {
     Pollable,
 }
 
+/// An entry that is on no stream: what its guest waits for on the monotonic clock.
+#[derive(Clone, Copy, Debug, PartialEq, Eq, Drop)]
+pub enum OwnEntry {
+    /// Of WASI 0.2.
+    Deadline(Deadline),
+    /// Of WASI 0.3.
+    Wait(Wait3),
+}
+
 /// What stands at a number of a guest's: it says what it is on.
 #[derive(Drop)]
 pub enum Entry {
@@ -40,6 +50,8 @@ pub enum Entry {
         stream: Standard,
         entry: StreamEntry,
     },
+    /// On no stream.
+    Own(OwnEntry),
 }
 
 impl Entry {
@@ -58,6 +70,12 @@ impl Entry {
     /// The kind of a polled writer.
     pub const POLLED_WRITER: u32 = 4;
 
+    /// The kind of a deadline.
+    pub const DEADLINE: u32 = 5;
+
+    /// The kind of a wait.
+    pub const WAIT: u32 = 6;
+
     /// Whether an entry has no parent.
     pub fn stands_alone(&self) -> bool
         ensures { result ≡ stands_alone self.now }
@@ -65,7 +83,7 @@ impl Entry {
         match self {
             Entry::Shared(SharedEntry::Pollable(_)) => false,
             Entry::Stream { stream: _, entry } => !matches!(entry, StreamEntry::Pollable),
-            Entry::Shared(_) => true,
+            Entry::Shared(_) | Entry::Own(_) => true,
         }
     }
 
@@ -87,7 +105,7 @@ impl Entry {
                     entry: StreamEntry::Plain
                 }
             ),
-            Entry::Shared(_) | Entry::Stream { .. } => false,
+            Entry::Shared(_) | Entry::Stream { .. } | Entry::Own(_) => false,
         }
     }
 
@@ -110,6 +128,7 @@ impl Entry {
                     entry: StreamEntry::Polled(_),
                 },
             ) => same_standard(*to, *on),
+            (Entry::Own(OwnEntry::Deadline(_)), Entry::Own(OwnEntry::Deadline(_))) => true,
             _ => false,
         }
     }
@@ -133,6 +152,8 @@ impl Kinded for Entry {
             Entry::Shared(SharedEntry::Polled(_)) => Entry::POLLED,
             Entry::Shared(SharedEntry::Pollable(_)) => Entry::POLLABLE,
             Entry::Stream { stream, entry } => stream_kind(*stream, *entry),
+            Entry::Own(OwnEntry::Deadline(_)) => Entry::DEADLINE,
+            Entry::Own(OwnEntry::Wait(_)) => Entry::WAIT,
         }
     }
 }

@@ -2,6 +2,7 @@
 //! input.
 #![tactic(auto)]
 
+mod clocks;
 mod deed;
 mod entry;
 mod laws;
@@ -11,8 +12,9 @@ mod settings;
 mod stream;
 mod tasks;
 
+pub use clocks::Clocks;
 pub use deed::Deed;
-pub use entry::{Entry, SharedEntry, StreamEntry};
+pub use entry::{Entry, OwnEntry, SharedEntry, StreamEntry};
 pub use laws::{
     a_run_of_the_host, buffers_keep_what_they_accept, calls_stay_in_reach, each_guest_is_alone,
     guests_are_isolated, outputs_fill_in_order, outputs_keep_what_they_took, transcripts_fix_runs,

@@ -29,6 +29,10 @@ abbrev of_number : (ℕ → Reply) → List Field → Option Reply
 of_number make (Field.Number number ∷ []) = Some (make number)
 of_number make _ = None
 
+abbrev of_numbers : (ℕ → ℕ → Reply) → List Field → Option Reply
+of_numbers make (Field.Number first ∷ Field.Number second ∷ []) = Some (make first second)
+of_numbers make _ = None
+
 abbrev of_hex : (List ℕ → Reply) → List Field → Option Reply
 of_hex make (Field.Hex bytes ∷ []) = Some (make bytes)
 of_hex make _ = None
@@ -46,6 +50,9 @@ alone word it = record { word = word; forms = []; make = of_none it }
 
 abbrev number : List ℕ → (ℕ → Reply) → Row
 number word make = record { word = word; forms = Form.AsNumber ∷ []; make = of_number make }
+
+abbrev numbers : List ℕ → (ℕ → ℕ → Reply) → Row
+numbers word make = record { word = word; forms = Form.AsNumber ∷ Form.AsNumber ∷ []; make = of_numbers make }
 
 abbrev hex : List ℕ → (List ℕ → Reply) → Row
 hex word make = record { word = word; forms = Form.AsHex ∷ []; make = of_hex make }
@@ -65,6 +72,7 @@ rows =
     ∷ number (codes "count") (λ count. reply.Told (told.Count count))
     ∷ alone (codes "true") (reply.Told (told.Truth true))
     ∷ alone (codes "false") (reply.Told (told.Truth false))
+    ∷ numbers (codes "time") (λ seconds nanoseconds. reply.Told (told.Time seconds nanoseconds))
     ∷ alone (codes "pending") (reply.Told told.Pending)
     ∷ alone (codes "closed") (reply.Told told.Closed)
     ∷ kind (codes "failed") (λ kind. reply.Told (told.Failed kind))

@@ -12,8 +12,10 @@ pub enum Told {
     Bytes(Piece),
     /// How many bytes were skipped, went out, or may be written at once.
     Count(u64),
-    /// Whether a pollable is ready.
+    /// Whether a pollable, a deadline or a wait is ready.
     Truth(bool),
+    /// What a wall clock reads, or its resolution: whole seconds, and nanoseconds on top of them.
+    Time { seconds: u64, nanoseconds: u32 },
     /// Not before the next delivery.
     Pending,
     /// The stream is at its end.

@@ -29,6 +29,14 @@ fn push_number(text: &mut Vec<u8>, word: &[u8], number: u64) -> Result<(), OutOf
     Ok(())
 }
 
+fn push_numbers(text: &mut Vec<u8>, word: &[u8], first: u64, second: u64) -> Result<(), OutOfMemory>
+    ensures ok { OnOk result (text.new.items ≡ text.old.items ++ worded (word.now, Field.Number first ∷ Field.Number second ∷ [])) }
+    ensures err { OnErr result (take (length text.old.items) text.new.items ≡ text.old.items) }
+{
+    push_number(text, word, first)?;
+    push_number(text, b"", second)
+}
+
 // lower-case digits, two for each byte
 fn push_digits(text: &mut Vec<u8>, bytes: &[u8]) -> Result<(), OutOfMemory>
     ensures ok { OnOk result (text.new.items ≡ text.old.items ++ encode_lower bytes.now) }
@@ -97,6 +105,10 @@ fn push_told(alloc: Global, text: &mut Vec<u8>, told: &Told) -> Result<(), OutOf
         Told::Count(count) => push_number(text, b"count", *count),
         Told::Truth(true) => push_word(text, b"true"),
         Told::Truth(false) => push_word(text, b"false"),
+        Told::Time {
+            seconds,
+            nanoseconds,
+        } => push_numbers(text, b"time", *seconds, u64::from(*nanoseconds)),
         Told::Pending => push_word(text, b"pending"),
         Told::Closed => push_word(text, b"closed"),
         Told::Failed(kind) => push_kind(text, b"failed", *kind),

@@ -6,6 +6,7 @@ use Rattle.std.specs.Str.{bytes_eq}
 pub use Rattle.wasi_words.specs.Fields.{Form, meaning_by, lines_of}
 use Rattle.wasi_script.specs.Fields.{words_of, guest_of, number_of, capacity_of, room_of, budget_of, exit_code_of, is_at_end, with_first, with_last, two_fields}
 use Rattle.wasi_script.specs.Name.{name_of}
+use Rattle.wasi_script.specs.Times.{time_of}
 use Rattle.wasi_script.specs.Bytes.{byte_string_of, declared_bytes_of}
 use Rattle.wasi_script.specs.Plans.{read_plan_of, write_plan_of}
 use Rattle.wasi_base.specs.declared.source.Plan.{Plan}
@@ -21,11 +22,15 @@ use Rattle.wasi_script.specs.declared.lines.Setting.TheVariants as setting
 use Rattle.wasi_script.specs.declared.lines.WorkerTurn.TheVariants as turn
 use Rattle.wasi_script.specs.declared.lines.StreamTask.{StreamTask}
 use Rattle.wasi_script.specs.declared.lines.StreamTask.TheVariants as task
+use Rattle.wasi_script.specs.declared.lines.ClockSetting.{ClockSetting}
+use Rattle.wasi_script.specs.declared.lines.ClockSetting.TheVariants as clock_setting
 use Rattle.wasi_script.specs.declared.lines.Standard.{Standard}
 use Rattle.wasi_script.specs.declared.lines.Standard.TheVariants as standard
 use Rattle.wasi_script.specs.declared.lines.Access.TheVariants as access
 use Rattle.wasi_script.specs.declared.lines.EntryCall.{EntryCall}
 use Rattle.wasi_script.specs.declared.lines.EntryCall.TheVariants as on
+use Rattle.wasi_script.specs.declared.lines.ClockCall.{ClockCall}
+use Rattle.wasi_script.specs.declared.lines.ClockCall.TheVariants as clock
 use Rattle.wasi_script.specs.declared.lines.OwnCall.TheVariants as own
 use Rattle.wasi_script.specs.declared.lines.Call.{Call}
 use Rattle.wasi_script.specs.declared.lines.Call.TheVariants as call
@@ -57,7 +62,7 @@ output_of word =
 abbrev pub exit_of : List ℕ → Option ExitStatus
 exit_of word = cond (bytes_eq word (codes "ok")) (Some exit.Ok) (cond (bytes_eq word (codes "err")) (Some exit.Err) None)
 
--- the calls that open a standard stream, those on an entry, and the others
+-- the calls that open a standard stream, those on an entry, those on the clocks, and the others
 abbrev pub open_calls : List (Form Call)
 open_calls =
     (codes "get-stdin", without_fields (call.Open standard.Input access.Plain))
@@ -97,8 +102,29 @@ other_calls =
     ∷ (codes "exit-code", with_last exit_code_of (λ code. call.Own (own.ExitCode code)))
     ∷ []
 
+-- a call on the clocks, without fields and with a number
+abbrev pub on_clocks : ClockCall → List (List ℕ) → Option Call
+on_clocks it = without_fields (call.Own (own.Clock it))
+
+abbrev pub on_clocks_with : (ℕ → ClockCall) → List (List ℕ) → Option Call
+on_clocks_with it = with_last number_of (λ number. call.Own (own.Clock (it number)))
+
+abbrev pub clock_calls : List (Form Call)
+clock_calls =
+    (codes "wall-now", on_clocks clock.WallNow)
+    ∷ (codes "wall-resolution", on_clocks clock.WallResolution)
+    ∷ (codes "system-now", on_clocks clock.SystemNow)
+    ∷ (codes "system-resolution", on_clocks clock.SystemResolution)
+    ∷ (codes "mono-now", on_clocks clock.MonotonicNow)
+    ∷ (codes "mono-resolution", on_clocks clock.MonotonicResolution)
+    ∷ (codes "subscribe-instant", on_clocks_with clock.SubscribeInstant)
+    ∷ (codes "subscribe-duration", on_clocks_with clock.SubscribeDuration)
+    ∷ (codes "wait-until", on_clocks_with clock.WaitUntil)
+    ∷ (codes "wait-for", on_clocks_with clock.WaitFor)
+    ∷ []
+
 abbrev pub call_of : List (List ℕ) → Option Call
-call_of = meaning_by (open_calls ++ (entry_calls ++ other_calls))
+call_of = meaning_by (open_calls ++ (entry_calls ++ (other_calls ++ clock_calls)))
 
 -- the steps' fields
 abbrev pub pipe_of : List (List ℕ) → Option Line
@@ -144,6 +170,18 @@ stream_tasks =
 abbrev pub turn_of : List (List ℕ) → Option Line
 turn_of fields = option_map line.Turn (meaning_by stream_tasks fields)
 
+-- a clock, and what it is set to
+abbrev pub clock_settings : List (Form ClockSetting)
+clock_settings =
+    (codes "mono", with_last number_of clock_setting.Monotonic)
+    ∷ (codes "mono-res", with_last number_of clock_setting.MonotonicResolution)
+    ∷ (codes "wall", λ fields. option_map clock_setting.Wall (time_of fields))
+    ∷ (codes "wall-res", λ fields. option_map clock_setting.WallResolution (time_of fields))
+    ∷ []
+
+abbrev pub clock_of : List (List ℕ) → Option Line
+clock_of fields = option_map line.Clock (meaning_by clock_settings fields)
+
 -- the steps that declare streams, and the others
 abbrev pub stream_lines : List (Form Line)
 stream_lines =
@@ -165,6 +203,7 @@ other_lines =
     ∷ (codes "capture", without_fields (line.Worker turn.Capture))
     ∷ (codes "deliver", without_fields (line.Worker turn.Deliver))
     ∷ (codes "turn", turn_of)
+    ∷ (codes "clock", clock_of)
     ∷ []
 
 abbrev pub line_of : List (List ℕ) → Option Line
@@ -245,6 +284,7 @@ may_stand names (line.Configure guest it) = may_set_up names guest && setting_st
 may_stand names (line.Call guest it) = names.is_guest guest
 may_stand names (line.Worker it) = true
 may_stand names (line.Turn it) = turn_stands names it
+may_stand names (line.Clock it) = true
 
 -- which streams have a task
 abbrev pub is_read_ahead : InputDeclaration → Bool
@@ -273,6 +313,7 @@ names_after names (line.Configure guest it) = names
 names_after names (line.Call guest it) = record names { was_called = also guest names.was_called }
 names_after names (line.Worker it) = names
 names_after names (line.Turn it) = names
+names_after names (line.Clock it) = names
 
 -- .. and after all of some steps
 abbrev pub names_end : Names → List Line → Names

@@ -9,4 +9,5 @@ pub mod Plans
 pub mod Reads
 pub mod Refused
 pub mod Rows
+pub mod Times
 pub mod laws

@@ -2,3 +2,4 @@
 pub mod Distinct
 pub mod Rows
 pub mod Standing
+pub mod TimeFacts

@@ -58,7 +58,7 @@ pub trait Declared {
                 self.allow_set_up(*guest) && self.allow_setting(setting)
             }
             Line::Call { guest, call: _ } => self.has_guest(*guest),
-            Line::Worker(_) => true,
+            Line::Worker(_) | Line::Clock(_) => true,
             Line::Turn(task) => self.allow_turn(task),
         }
     }
@@ -224,7 +224,7 @@ impl Declarations {
             }
             Line::Guest { guest, input: _ } => self.declared[*guest as usize] = true,
             Line::Call { guest, call: _ } => self.called[*guest as usize] = true,
-            Line::Configure { .. } | Line::Worker(_) | Line::Turn(_) => {}
+            Line::Configure { .. } | Line::Worker(_) | Line::Turn(_) | Line::Clock(_) => {}
         }
         Ok(())
     }

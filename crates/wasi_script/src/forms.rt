@@ -1,20 +1,22 @@
 ghost use Rattle.std.specs.Prelude.{◌≡◌, ◌∷◌, ◌++◌, IfOk};
-ghost use Rattle.wasi_script.specs.Grammar.{meaning_by, without_fields, entry_calls, other_calls, other_lines, call_of, line_of, pipe_of, source_fields, out_pipe_of, sink_fields, buffered_of, turn_of, guest_line_of, call_line_of, on_number as on_number_of, reading_of, exit_of, input_of, output_of};
+ghost use Rattle.wasi_script.specs.Grammar.{meaning_by, without_fields, entry_calls, other_calls, clock_calls, clock_settings, on_clocks, other_lines, call_of, line_of, pipe_of, source_fields, out_pipe_of, sink_fields, buffered_of, turn_of, clock_of, guest_line_of, call_line_of, on_number as on_number_of, reading_of, exit_of, input_of, output_of};
 ghost use Rattle.wasi_script.specs.Fields.{two_fields, guest_of, number_of, capacity_of};
 ghost use Rattle.wasi_script.specs.Bytes.{byte_string_of};
 ghost use Rattle.wasi_script.specs.declared.lines.Call.TheVariants as call;
+ghost use Rattle.wasi_script.specs.declared.lines.OwnCall.TheVariants as own;
 ghost use Rattle.wasi_script.specs.declared.lines.Line.TheVariants as line;
 ghost use Rattle.wasi_script.specs.Reads.{Reads};
 
 use crate::bytes::ByteString;
 use crate::lines::{
-    Access, Call, EntryCall, ExitStatus, Input, InputDeclaration, Line, Output, OutputDeclaration,
-    OwnCall, Setting, Standard, StreamTask, WorkerTurn,
+    Access, Call, ClockCall, ClockSetting, EntryCall, ExitStatus, Input, InputDeclaration, Line,
+    Output, OutputDeclaration, OwnCall, Setting, Standard, StreamTask, WorkerTurn,
 };
 use crate::name::Name;
 use crate::numbers::{parse_budget, parse_capacity, parse_exit_code, parse_guest, parse_room};
 use crate::plan::{ReadPlan, WritePlan};
 use crate::refusal::Refusal;
+use crate::times::parse_time;
 use std::alloc::Global;
 use wasi_base::OutOfMemory;
 use wasi_words::{Parts, is, is_done, only, parse_number};
@@ -92,6 +94,9 @@ fn parse_other_line(alloc: Global, word: &[u8], words: Parts) -> Result<Line, Re
         worker(words, WorkerTurn::Deliver)
     } else if is(word, b"turn") {
         parse_turn(alloc, words)
+    } else if is(word, b"clock") {
+        let setting = parse_clock_setting(words).ok_or(Refusal::Invalid)?;
+        Ok(Line::Clock(setting))
     } else {
         Err(Refusal::Invalid)
     }
@@ -189,6 +194,27 @@ fn parse_turn(alloc: Global, mut words: Parts) -> Result<Line, Refusal>
     }
 }
 
+fn parse_clock_setting(mut words: Parts) -> Option<ClockSetting>
+    ensures { result ≡ meaning_by clock_settings words.entry }
+{
+    let word = words.next()?;
+    if is(word, b"mono") {
+        let now = parse_number(only(words)?)?;
+        Some(ClockSetting::Monotonic(now))
+    } else if is(word, b"mono-res") {
+        let resolution = parse_number(only(words)?)?;
+        Some(ClockSetting::MonotonicResolution(resolution))
+    } else if is(word, b"wall") {
+        let now = parse_time(words)?;
+        Some(ClockSetting::Wall(now))
+    } else if is(word, b"wall-res") {
+        let resolution = parse_time(words)?;
+        Some(ClockSetting::WallResolution(resolution))
+    } else {
+        None
+    }
+}
+
 fn parse_guest_line(alloc: Global, mut words: Parts) -> Result<Line, Refusal>
     ensures { Reads result (guest_line_of words.entry) }
 {
@@ -256,7 +282,7 @@ fn open(words: Parts, stream: Standard, access: Access) -> Result<Call, Refusal>
 
 // a call on the entry of a number, or another one
 fn parse_entry_call(alloc: Global, name: &[u8], words: Parts) -> Result<Call, Refusal>
-    ensures { Reads result (meaning_by (entry_calls ++ other_calls) (name.now ∷ words.entry)) }
+    ensures { Reads result (meaning_by (entry_calls ++ (other_calls ++ clock_calls)) (name.now ∷ words.entry)) }
 {
     if is(name, b"read") {
         let (number, size) = number_and_number(words)?;
@@ -328,7 +354,7 @@ fn number_and_bytes(alloc: Global, mut words: Parts) -> Result<(u64, ByteString)
 
 // a call on an entry of any kind, or on none
 fn parse_other_call(name: &[u8], words: Parts) -> Option<Call>
-    ensures { result ≡ meaning_by other_calls (name.now ∷ words.entry) }
+    ensures { result ≡ meaning_by (other_calls ++ clock_calls) (name.now ∷ words.entry) }
 {
     if is(name, b"drop") {
         let number = parse_number(only(words)?)?;
@@ -340,8 +366,53 @@ fn parse_other_call(name: &[u8], words: Parts) -> Option<Call>
         let code = parse_exit_code(only(words)?)?;
         Some(Call::Own(OwnCall::ExitCode { code }))
     } else {
+        parse_clock_call(name, words)
+    }
+}
+
+// a call on the clocks
+fn parse_clock_call(name: &[u8], words: Parts) -> Option<Call>
+    ensures { result ≡ meaning_by clock_calls (name.now ∷ words.entry) }
+{
+    if is(name, b"wall-now") {
+        on_clocks(words, ClockCall::WallNow)
+    } else if is(name, b"wall-resolution") {
+        on_clocks(words, ClockCall::WallResolution)
+    } else if is(name, b"system-now") {
+        on_clocks(words, ClockCall::SystemNow)
+    } else if is(name, b"system-resolution") {
+        on_clocks(words, ClockCall::SystemResolution)
+    } else if is(name, b"mono-now") {
+        on_clocks(words, ClockCall::MonotonicNow)
+    } else if is(name, b"mono-resolution") {
+        on_clocks(words, ClockCall::MonotonicResolution)
+    } else if is(name, b"subscribe-instant") {
+        let when = parse_number(only(words)?)?;
+        Some(clock(ClockCall::SubscribeInstant { when }))
+    } else if is(name, b"subscribe-duration") {
+        let duration = parse_number(only(words)?)?;
+        Some(clock(ClockCall::SubscribeDuration { duration }))
+    } else if is(name, b"wait-until") {
+        let when = parse_number(only(words)?)?;
+        Some(clock(ClockCall::WaitUntil { when }))
+    } else if is(name, b"wait-for") {
+        let duration = parse_number(only(words)?)?;
+        Some(clock(ClockCall::WaitFor { duration }))
+    } else {
         None
     }
+}
+
+fn clock(it: ClockCall) -> Call
+    ensures { result ≡ call.Own (own.Clock it) }
+{
+    Call::Own(OwnCall::Clock(it))
+}
+
+fn on_clocks(words: Parts, it: ClockCall) -> Option<Call>
+    ensures { result ≡ on_clocks it words.entry }
+{
+    is_done(words).then_some(clock(it))
 }
 
 fn parse_input(alloc: Global, word: &[u8]) -> Result<Input, Refusal>

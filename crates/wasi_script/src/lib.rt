@@ -12,14 +12,15 @@ mod numbers;
 mod parse;
 mod plan;
 mod refusal;
+mod times;
 
 pub use bytes::ByteString;
 pub use declarations::Declared;
 pub use forms::Reading;
 pub use generated::{MOST_GENERATED_LINES, gen_script};
 pub use lines::{
-    Access, Call, EntryCall, ExitStatus, Input, InputDeclaration, Line, Output, OutputDeclaration,
-    OwnCall, Setting, Standard, StreamTask, WorkerTurn,
+    Access, Call, ClockCall, ClockSetting, EntryCall, ExitStatus, Input, InputDeclaration, Line,
+    Output, OutputDeclaration, OwnCall, Setting, Standard, StreamTask, WorkerTurn,
 };
 pub use name::Name;
 pub use parse::{Script, ScriptError, parse_script, read_after};

@@ -1,6 +1,7 @@
 use crate::bytes::ByteString;
 use crate::name::Name;
 use crate::plan::{ReadPlan, WritePlan};
+use wasi_clocks::WallTime;
 
 /// Where a guest's standard input comes from.
 #[derive(Drop)]
@@ -124,19 +125,47 @@ pub enum EntryCall {
     PollFlush,
     /// `subscribe N`: a pollable of the stream.
     Subscribe,
-    /// `ready N`: whether the pollable is ready.
+    /// `ready N`: whether the pollable, the deadline or the wait is ready.
     Ready,
-    /// `block N`: one poll of the pollable's wait.
+    /// `block N`: one poll of the pollable's wait; of a deadline or a wait the same as `ready`.
     Block,
 }
 
-/// What a guest calls on what it owns alone: on no entry and no stream.
+/// What a guest asks of the clocks, and what it subscribes to on the monotonic one, in its
+/// nanoseconds.
+#[derive(Clone, Copy, Debug, PartialEq, Eq, Drop)]
+pub enum ClockCall {
+    /// `wall-now`: what the wall clock reads.
+    WallNow,
+    /// `wall-resolution`: its smallest step.
+    WallResolution,
+    /// `system-now`: what the wall clock reads, as a time of WASI 0.3.
+    SystemNow,
+    /// `system-resolution`: its smallest step, in nanoseconds.
+    SystemResolution,
+    /// `mono-now`: what the monotonic clock reads.
+    MonotonicNow,
+    /// `mono-resolution`: its smallest step.
+    MonotonicResolution,
+    /// `subscribe-instant NUM`: a deadline at this time.
+    SubscribeInstant { when: u64 },
+    /// `subscribe-duration NUM`: a deadline so long from now.
+    SubscribeDuration { duration: u64 },
+    /// `wait-until NUM`: a wait until this time.
+    WaitUntil { when: u64 },
+    /// `wait-for NUM`: a wait of this length.
+    WaitFor { duration: u64 },
+}
+
+/// What a guest calls on no entry and no stream.
 #[derive(Drop)]
 pub enum OwnCall {
     /// `exit ok` or `exit err`.
     Exit { status: ExitStatus },
     /// `exit-code K`.
     ExitCode { code: u8 },
+    /// A call on the clocks.
+    Clock(ClockCall),
 }
 
 /// What a guest calls.
@@ -149,7 +178,7 @@ pub enum Call {
     On { number: u64, call: EntryCall },
     /// `drop N`: the entry of a number goes out of the guest's table.
     Drop { number: u64 },
-    /// A call on what the guest owns alone.
+    /// A call on no entry and no stream.
     Own(OwnCall),
 }
 
@@ -169,6 +198,19 @@ pub enum StreamTask {
     Reader(Name),
     /// `out NAME`: it hands what the `buffered` of this name keeps back to its sink.
     Writer(Name),
+}
+
+/// What a line sets of the clocks, which all guests see.
+#[derive(Clone, Copy, Debug, PartialEq, Eq, Drop)]
+pub enum ClockSetting {
+    /// `mono NUM`: what the monotonic clock reads, in nanoseconds.
+    Monotonic(u64),
+    /// `mono-res NUM`: its smallest step, in nanoseconds.
+    MonotonicResolution(u64),
+    /// `wall S NS`: what the wall clock reads.
+    Wall(WallTime),
+    /// `wall-res S NS`: its smallest step.
+    WallResolution(WallTime),
 }
 
 /// A step of a session, by its kind.
@@ -203,4 +245,6 @@ pub enum Line {
     Worker(WorkerTurn),
     /// `turn in NAME`, `turn out NAME`: a stream's task has its turn.
     Turn(StreamTask),
+    /// `clock ..`: a clock is set.
+    Clock(ClockSetting),
 }

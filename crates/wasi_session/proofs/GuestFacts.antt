@@ -11,7 +11,7 @@ use Rattle.wasi_script.specs.Grammar.{may_declare}
 use Rattle.wasi_script.specs.laws.Distinct.{is_new}
 use Rattle.wasi_script.specs.laws.Rows.{absent_is}
 use Rattle.wasi_reply.specs.declared.reply.Reply.{Reply}
-use Rattle.wasi_host.specs.Host.{Guest, Streams, Host, Answered, names_of, configured, answer_by, answer, called_in, the_rules, guest_of, put_answered}
+use Rattle.wasi_host.specs.Host.{Guest, Streams, Host, Answered, names_of, configured, answer_by, answer, called_in, the_calls, guest_of, put_answered}
 
 -- a guest that is there
 there : (guests : List (Option Guest)) (n : ℕ) (it : Option Guest) → n < length guests → it ≡ get_or guests n it → get_or guests n None ≡ it
@@ -19,12 +19,12 @@ there [] n it within is = absurd (omega arith)
 there (x ∷ guests) zero it within is = sym is
 there (x ∷ guests) (suc n) it within is = there guests n it (omega arith) is
 
-pub called_done : {E : Type 0} (result : Result Reply E) (host : Host) (after : Shared) (streams : Streams) (n : ℕ) (c : Call) (guest left : Guest) (it : Option Guest) → n < length host.guests → it ≡ get_or host.guests n it → it ≡ Some guest → IfOk result (λ reply. ◌≡◌ {A = Answered} (record { reply = reply; guest = left; shared = after; streams = streams }) (answer_by guest.ended the_rules c n guest host.shared host.streams)) → IfOk result (λ reply. reply ≡ (answer the_rules c n host).reply) × OnOk result (◌≡◌ {A = Host} (record { shared = after; guests = set host.guests n (Some left); streams = streams }) (called_in the_rules c n host))
+pub called_done : {E : Type 0} (result : Result Reply E) (host : Host) (after : Shared) (streams : Streams) (n : ℕ) (c : Call) (guest left : Guest) (it : Option Guest) → n < length host.guests → it ≡ get_or host.guests n it → it ≡ Some guest → IfOk result (λ reply. ◌≡◌ {A = Answered} (record { reply = reply; guest = left; shared = after; streams = streams }) (answer_by guest.ended (the_calls host.clocks) c n guest host.shared host.streams)) → IfOk result (λ reply. reply ≡ (answer (the_calls host.clocks) c n host).reply) × OnOk result (◌≡◌ {A = Host} (record { shared = after; guests = set host.guests n (Some left); streams = streams; clocks = host.clocks }) (called_in (the_calls host.clocks) c n host))
 called_done (Err e) host after streams n c guest left it within is some done = (tt, tt)
 called_done (Ok reply) host after streams n c guest left it within is some done =
     rw (there host.guests n it within is, some) (ap (λ (done : Answered). done.reply) done, ap (λ (done : Answered). put_answered host n done) done)
 
-pub configured_done : {E : Type 0} (result : Result (Unit {0}) E) (host : Host) (n : ℕ) (setting : Setting) (guest left : Guest) (it : Option Guest) → n < length host.guests → it ≡ get_or host.guests n it → it ≡ Some guest → OnOk result (left ≡ configured setting guest) → OnOk result (◌≡◌ {A = Host} (record { shared = host.shared; guests = set host.guests n (Some left); streams = host.streams }) (record { shared = host.shared; guests = set host.guests n (option_map (configured setting) (guest_of host n)); streams = host.streams }))
+pub configured_done : {E : Type 0} (result : Result (Unit {0}) E) (host : Host) (n : ℕ) (setting : Setting) (guest left : Guest) (it : Option Guest) → n < length host.guests → it ≡ get_or host.guests n it → it ≡ Some guest → OnOk result (left ≡ configured setting guest) → OnOk result (◌≡◌ {A = Host} (record { shared = host.shared; guests = set host.guests n (Some left); streams = host.streams; clocks = host.clocks }) (record { shared = host.shared; guests = set host.guests n (option_map (configured setting) (guest_of host n)); streams = host.streams; clocks = host.clocks }))
 configured_done (Err e) host n setting guest left it within is some done = tt
 configured_done (Ok done) host n setting guest left it within is some left_is =
     rw (there host.guests n it within is, some, left_is) refl

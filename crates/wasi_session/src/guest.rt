@@ -6,8 +6,9 @@ ghost use Rattle.wasi_session.specs.Makes.{IsMake};
 ghost use Rattle.wasi_session.specs.Capacities.{CapacityFits};
 ghost use Rattle.wasi_session.specs.StreamCalls.{stream_doing};
 ghost use Rattle.wasi_host.specs.declared.leaver.Leaver.TheVariants as leaver;
-ghost use Rattle.wasi_host.specs.Host.{leave_entry, leave_all, the_rules, new_guest, configured, left_guest, settled, answer_at, answer_to, answer_by};
+ghost use Rattle.wasi_host.specs.Host.{leave_entry, leave_all, the_calls, new_guest, configured, left_guest, settled, answer_at, answer_to, answer_by};
 
+use crate::clocks::{awaited, clocked};
 use crate::own::Own;
 use crate::shared;
 use crate::streams::Streams;
@@ -15,7 +16,7 @@ use std::alloc::Global;
 use std::marker::Model;
 use wasi_base::{OutOfMemory, TrapText};
 use wasi_cli::{Owner, StdioHandle, StdoutHandle};
-use wasi_host::{Deed, Entry, Leaver, Settings, SharedEntry, StreamEntry};
+use wasi_host::{Clocks, Deed, Entry, Leaver, Settings, SharedEntry, StreamEntry};
 use wasi_reply::{Reply, Told};
 use wasi_script::{Access, Call, EntryCall, ExitStatus, Input, Output, OwnCall, Setting, Standard};
 use wasi_stdin::{StdinCore, Wait};
@@ -89,17 +90,18 @@ impl Guest {
         alloc: Global,
         guest: u32,
         call: &Call,
+        clocks: &Clocks,
         core: &mut StdinCore,
         streams: &mut Streams,
     ) -> Result<Reply, OutOfMemory>
-        ensures done { IfOk result (λ reply. record { reply = reply; guest = self.new; shared = core.new; streams = streams.new } ≡ answer_by self.old.ended the_rules call.now guest self.old core.old streams.old) }
+        ensures done { IfOk result (λ reply. record { reply = reply; guest = self.new; shared = core.new; streams = streams.new } ≡ answer_by self.old.ended (the_calls clocks.now) call.now guest self.old core.old streams.old) }
         ensures err { OnErr result ((self.new ≡ self.old) × (core.new ≡ core.old) × (streams.new ≡ streams.old)) }
     {
         if self.ended {
             self.was_called = true;
             return Ok(Reply::Ended);
         }
-        let reply = self.answer(alloc, guest, call, core, streams)?;
+        let reply = self.answer(alloc, guest, call, clocks, core, streams)?;
         self.settle(&reply);
         if self.ended {
             self.leave(guest, streams);
@@ -142,7 +144,7 @@ impl Guest {
                 Standard::Output => streams.leave_output(&self.settings.stdout, who),
                 Standard::Error => streams.leave_output(&self.settings.stderr, who),
             },
-            Some(Entry::Shared(_)) | None => {}
+            Some(Entry::Shared(_) | Entry::Own(_)) | None => {}
         }
     }
 
@@ -152,10 +154,11 @@ impl Guest {
         alloc: Global,
         guest: u32,
         call: &Call,
+        clocks: &Clocks,
         core: &mut StdinCore,
         streams: &mut Streams,
     ) -> Result<Reply, OutOfMemory>
-        ensures done { IfOk result (λ reply. settled self.old (record { reply = reply; own = self.new.own }) core.new streams.new ≡ answer_to the_rules call.now guest self.old core.old streams.old) }
+        ensures done { IfOk result (λ reply. settled self.old (record { reply = reply; own = self.new.own }) core.new streams.new ≡ answer_to (the_calls clocks.now) call.now guest self.old core.old streams.old) }
         ensures rest { self.new ≡ record self.old { own = self.new.own } }
         ensures err { OnErr result ((self.new ≡ self.old) × (core.new ≡ core.old) × (streams.new ≡ streams.old)) }
     {
@@ -168,14 +171,14 @@ impl Guest {
                 })
             }
             Call::On { number, call } => {
-                self.answer_at(alloc, call, guest, *number, core, streams)
+                self.answer_at(alloc, call, guest, *number, clocks, core, streams)
             }
             Call::Drop { number } => {
                 self.leave_entry(guest, *number, streams);
                 Ok(self.own.drop(*number))
             }
             Call::Own(call) => {
-                let deed = self.owned(call);
+                let deed = self.owned(call, clocks);
                 self.own.act_apart(deed)
             }
         }
@@ -188,10 +191,11 @@ impl Guest {
         call: &EntryCall,
         guest: u32,
         number: u64,
+        clocks: &Clocks,
         core: &mut StdinCore,
         streams: &mut Streams,
     ) -> Result<Reply, OutOfMemory>
-        ensures done { IfOk result (λ reply. settled self.old (record { reply = reply; own = self.new.own }) core.new streams.new ≡ answer_at the_rules call.now (record { guest = guest; number = number }) (entry_at self.old.own number) self.old core.old streams.old) }
+        ensures done { IfOk result (λ reply. settled self.old (record { reply = reply; own = self.new.own }) core.new streams.new ≡ answer_at (the_calls clocks.now) call.now (record { guest = guest; number = number }) (entry_at self.old.own number) self.old core.old streams.old) }
         ensures rest { self.new ≡ record self.old { own = self.new.own } }
         ensures err { OnErr result ((self.new ≡ self.old) × (core.new ≡ core.old) × (streams.new ≡ streams.old)) }
     {
@@ -209,6 +213,10 @@ impl Guest {
             Some(Entry::Stream { stream, entry }) => {
                 let (stream, entry) = (*stream, *entry);
                 let deed = self.on_stream(alloc, call, at, stream, entry, streams)?;
+                self.own.act_apart(deed)
+            }
+            Some(Entry::Own(entry)) => {
+                let deed = awaited(clocks, call, at, *entry);
                 self.own.act_apart(deed)
             }
         }
@@ -238,14 +246,15 @@ impl Guest {
         }
     }
 
-    // a call on what the guest owns alone
-    fn owned(&self, call: &OwnCall) -> Deed
-        ensures { result ≡ owned call.now self.now.settings self.now.own }
+    // a call on no entry and no stream
+    fn owned(&self, call: &OwnCall, clocks: &Clocks) -> Deed
+        ensures { result ≡ owned clocks.now call.now self.now.settings self.now.own }
     {
         let _ = &self;
         match call {
             OwnCall::Exit { status } => Deed::Tell(Told::Exit(exit_status(*status))),
             OwnCall::ExitCode { code } => Deed::Tell(Told::Exit(*code)),
+            OwnCall::Clock(call) => clocked(clocks, *call),
         }
     }
 }

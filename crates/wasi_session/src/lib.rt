@@ -2,6 +2,7 @@
 #![tactic(auto)]
 
 mod answers;
+mod clocks;
 mod generated;
 mod guest;
 mod input;

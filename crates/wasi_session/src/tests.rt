@@ -1,5 +1,6 @@
 ghost use Rattle.std.specs.Prelude.{None};
 
+mod clocks;
 mod generated;
 mod tasks;
 

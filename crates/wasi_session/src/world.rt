@@ -7,7 +7,8 @@ ghost use Rattle.wasi_stdin.specs.Shared.{given_now};
 ghost use Rattle.wasi_script.specs.Grammar.{setting_stands, budget_stands};
 ghost use Rattle.wasi_reply.specs.Reply.{OnFault};
 ghost use Rattle.wasi_reply.specs.Outputs.{output_lines};
-ghost use Rattle.wasi_host.specs.Host.{the_rules, new_guest, configured, new_input, new_output, new_outlet, new_host, guest_of, answer, called_in, with_input, with_output, with_guest, delivery_told, after_delivery, captured_told, outcome_told, turn_told, after_turn, task_told, after_task, names_of, IsStep, OnInputFault, Fits, size_read};
+ghost use Rattle.wasi_host.specs.Host.{the_calls, the_rules, new_guest, configured, new_input, new_output, new_outlet, new_host, guest_of, answer, called_in, with_input, with_output, with_guest, delivery_told, after_delivery, captured_told, outcome_told, turn_told, after_turn, task_told, after_task, names_of, IsStep, OnInputFault, Fits, size_read};
+ghost use Rattle.wasi_host.specs.Clocks.{clocks_after};
 ghost use Rattle.wasi_host.specs.Transcript.{outputs_of};
 ghost use Rattle.std.specs.Option.{option_copied, option_map};
 ghost use Rattle.wasi_stdin.specs.Shared.{capture_of, after_capture};
@@ -19,11 +20,12 @@ use std::alloc::Global;
 use std::marker::Model;
 use wasi_base::{MemSink, MemSource, OutOfMemory, Source};
 use wasi_host::{
-    AsyncInput, BufferedOutput, FileInput, FileOutput, InStream, OutStream, ProcessOutput,
+    AsyncInput, BufferedOutput, Clocks, FileInput, FileOutput, InStream, OutStream, ProcessOutput,
 };
 use wasi_reply::{Reply, Told, Worked};
 use wasi_script::{
-    Call, Declared, Input, InputDeclaration, Line, Name, OutputDeclaration, Setting, StreamTask, WorkerTurn, WritePlan,
+    Call, ClockSetting, Declared, Input, InputDeclaration, Line, Name, OutputDeclaration, Setting,
+    StreamTask, WorkerTurn, WritePlan,
 };
 use wasi_stdin::{MOST_BYTES, Outcome, StdinCore, deliver_from};
 use wasi_streams::{MemoryInputPipe, MemoryOutputPipe};
@@ -117,12 +119,13 @@ fn new_sink(alloc: Global, room: u64, plan: &WritePlan) -> Result<MemSink, OutOf
     MemSink::new(alloc, room, plan)
 }
 
-/// The shared input, all guests by their numbers, and the declared streams.
+/// The shared input, all guests by their numbers, the declared streams, and the clocks.
 #[derive(Drop)]
 pub struct World {
     core: StdinCore,
     guests: Vec<Option<Guest>>,
     streams: Streams,
+    clocks: Clocks,
     room: Vec<u8>,
 }
 
@@ -131,14 +134,15 @@ impl Model for World {
     ghost use Rattle.wasi_stdin.specs.contracts.stdin_core.StdinCore.{the_row as core_row};
     ghost use Rattle.wasi_session.specs.contracts.guest.Guest.{the_row as guest_row};
     ghost use Rattle.wasi_session.specs.contracts.streams.Streams.{the_row as streams_row};
+    ghost use Rattle.wasi_host.specs.contracts.clocks.Clocks.{the_row as clocks_row};
     ghost use Rattle.wasi_host.specs.Host.{Host};
     ghost use Rattle.wasi_host.specs.Codes.{host_code};
 
     ghost Value = { Host };
 
-    ghost coded = { host_code core_row.coded guest_row.coded streams_row.coded };
+    ghost coded = { host_code core_row.coded guest_row.coded streams_row.coded clocks_row.coded };
 
-    ghost view = { λ w. record { shared = w.core; guests = w.guests.items; streams = w.streams } };
+    ghost view = { λ w. record { shared = w.core; guests = w.guests.items; streams = w.streams; clocks = w.clocks } };
 
     ghost invariant = { λ w. (length w.guests.items ≡ 64) × (65536 ≤ length w.room.items) };
 }
@@ -155,6 +159,7 @@ impl World {
             core,
             guests,
             streams,
+            clocks: Clocks::new(),
             room,
         })
     }
@@ -234,12 +239,19 @@ impl World {
 
     fn call(&mut self, alloc: Global, guest: u32, call: &Call) -> Result<Reply, OutOfMemory>
         requires { is_some (guest_of self.old guest) ≡ true }
-        ensures reply { IfOk result (λ reply. reply ≡ (answer the_rules call.now guest self.old).reply) }
-        ensures after { OnOk result (self.new ≡ called_in the_rules call.now guest self.old) }
+        ensures reply { IfOk result (λ reply. reply ≡ (answer (the_calls self.old.clocks) call.now guest self.old).reply) }
+        ensures after { OnOk result (self.new ≡ called_in (the_calls self.old.clocks) call.now guest self.old) }
         ensures err { OnErr result (self.new ≡ self.old) }
     {
         match &mut self.guests[guest as usize] {
-            Some(it) => it.call(alloc, guest, call, &mut self.core, &mut self.streams),
+            Some(it) => it.call(
+                alloc,
+                guest,
+                call,
+                &self.clocks,
+                &mut self.core,
+                &mut self.streams,
+            ),
             None => unreachable!(),
         }
     }
@@ -276,6 +288,12 @@ impl World {
         self.streams.turn(task)
     }
 
+    fn set_clock(&mut self, setting: ClockSetting)
+        ensures { self.new ≡ record self.old { clocks = clocks_after setting self.old.clocks } }
+    {
+        self.clocks.set(setting);
+    }
+
     /// One step.
     pub fn answer<I: Source>(
         &mut self,
@@ -300,6 +318,10 @@ impl World {
             Line::Worker(WorkerTurn::Capture) => Ok(Reply::Worked(self.capture())),
             Line::Worker(WorkerTurn::Deliver) => Ok(Reply::Worked(self.deliver(stdin))),
             Line::Turn(task) => Ok(Reply::Worked(self.turn(task))),
+            Line::Clock(setting) => {
+                self.set_clock(*setting);
+                Ok(Reply::Told(Told::Ok))
+            }
         }
     }
 }

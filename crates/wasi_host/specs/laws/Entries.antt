@@ -22,6 +22,8 @@ use Rattle.wasi_host.specs.declared.entry.Entry.{Entry}
 use Rattle.wasi_host.specs.declared.entry.Entry.TheVariants as entry
 use Rattle.wasi_host.specs.declared.entry.SharedEntry.TheVariants as shared
 use Rattle.wasi_host.specs.declared.entry.StreamEntry.TheVariants as stream
+use Rattle.wasi_host.specs.declared.entry.OwnEntry.TheVariants as kept
+use Rattle.wasi_clocks.specs.declared.deadlines.Deadline.{Deadline}
 use Rattle.wasi_host.specs.declared.deed.Deed.{Deed}
 use Rattle.wasi_host.specs.declared.deed.Deed.TheVariants.{Tell, Make, Change}
 use Rattle.wasi_script.specs.declared.lines.Standard.{Standard}
@@ -41,6 +43,7 @@ again_alone : (old new : Entry) → may_change (Some old) new ≡ true → stand
 again_alone (entry.Shared (shared.Polled old)) (entry.Shared (shared.Polled new)) e = refl
 again_alone (entry.Shared (shared.Pollable old)) (entry.Shared (shared.Pollable new)) e = refl
 again_alone (entry.Stream to (stream.Polled old)) (entry.Stream on (stream.Polled new)) e = refl
+again_alone (entry.Own (kept.Deadline old)) (entry.Own (kept.Deadline new)) e = refl
 again_alone old new e = absurd (true≢false (sym e))
 
 again_under : (old new : Entry) (o : Option Entry) → may_change (Some old) new ≡ true → goes_under new o ≡ goes_under old o
@@ -49,6 +52,7 @@ again_under (entry.Shared (shared.Pollable old)) (entry.Shared (shared.Pollable 
 again_under (entry.Shared (shared.Pollable old)) (entry.Shared (shared.Pollable new)) (Some (entry.Shared shared.Reader)) e = refl
 again_under (entry.Shared (shared.Pollable old)) (entry.Shared (shared.Pollable new)) (Some other) e = refl
 again_under (entry.Stream to (stream.Polled old)) (entry.Stream on (stream.Polled new)) o e = refl
+again_under (entry.Own (kept.Deadline old)) (entry.Own (kept.Deadline new)) o e = refl
 again_under old new o e = absurd (true≢false (sym e))
 
 pub none_polled : (child : Entry) (wait : Option ℕ) → goes_under child (Some (entry.Shared (shared.Polled wait))) ≡ false
@@ -66,11 +70,17 @@ none_handle (entry.Shared (shared.Pollable w)) to handle = refl
 none_handle (entry.Stream on stream.Pollable) to handle = refl
 none_handle other to handle = refl
 
+none_deadline : (child : Entry) (it : Deadline) → goes_under child (Some (entry.Own (kept.Deadline it))) ≡ false
+none_deadline (entry.Shared (shared.Pollable w)) it = refl
+none_deadline (entry.Stream to stream.Pollable) it = refl
+none_deadline other it = refl
+
 -- nothing stands under entries that are changed
 pub changed_alone : (old new child : Entry) → may_change (Some old) new ≡ true → (goes_under child (Some old) ≡ false) × (goes_under child (Some new) ≡ false)
 changed_alone (entry.Shared (shared.Polled old)) (entry.Shared (shared.Polled new)) child e = (none_polled child old, none_polled child new)
 changed_alone (entry.Shared (shared.Pollable old)) (entry.Shared (shared.Pollable new)) child e = (none_pollable child old, none_pollable child new)
 changed_alone (entry.Stream to (stream.Polled old)) (entry.Stream on (stream.Polled new)) child e = (none_handle child to old, none_handle child on new)
+changed_alone (entry.Own (kept.Deadline old)) (entry.Own (kept.Deadline new)) child e = (none_deadline child old, none_deadline child new)
 changed_alone old new child e = absurd (true≢false (sym e))
 
 -- ---- what a guest owns

@@ -27,13 +27,15 @@ use Rattle.wasi_host.specs.declared.entry.SharedEntry.{SharedEntry}
 use Rattle.wasi_host.specs.declared.entry.SharedEntry.TheVariants as on
 use Rattle.wasi_host.specs.declared.entry.StreamEntry.TheVariants as stream
 use Rattle.wasi_host.specs.declared.leaver.Leaver.TheVariants as leaver
+use Rattle.wasi_host.specs.declared.entry.OwnEntry.TheVariants as kept
 use Rattle.wasi_host.specs.declared.stream.InStream.{InStream}
 use Rattle.wasi_host.specs.declared.stream.OutStream.{OutStream}
 use Rattle.wasi_host.specs.declared.deed.Deed.{Deed}
 use Rattle.wasi_host.specs.declared.deed.Deed.TheVariants.{Tell, Make, Change}
 use Rattle.wasi_host.specs.Deeds.{Own, Done, trapped, entry_at, may_make, may_change, made, with_kept, act, dropped, is_shared, apart}
-use Rattle.wasi_host.specs.Calls.{Doing, doing, opened, asked, called, sent, owned as own_deed, shared_entry, stream_entry}
-use Rattle.wasi_host.specs.Host.{Guest, Streams, the_rules, Answered, settled, leave_entry, answer_at, answer_to, answer_by, input_at, put_input, output_at, put_output}
+use Rattle.wasi_host.specs.Calls.{Doing, doing, opened, asked, called, sent, awaited, owned as own_deed, shared_entry, stream_entry}
+use Rattle.wasi_host.specs.Clocks.{Clocks}
+use Rattle.wasi_host.specs.Host.{Guest, Streams, the_calls, Answered, settled, leave_entry, answer_at, answer_to, answer_by, input_at, put_input, output_at, put_output}
 use Rattle.wasi_host.specs.Run.{Standing, Sharing, at_number, without_guest, dropped_by, live_after, left_by, EntryRule, entry_bytes, CallRule, OpenRule, DropRule, EndedRule, call_bytes}
 use Rattle.wasi_host.specs.Run as run
 use Rattle.wasi_host.specs.laws.Entries.{IsOwn, own_left, Follows, acts, drops, live_is}
@@ -49,6 +51,7 @@ stays_apart : (old new : Entry) → may_change (Some old) new ≡ true → is_sh
 stays_apart (entry.Shared (on.Polled a)) (entry.Shared (on.Polled b)) e none = none
 stays_apart (entry.Shared (on.Pollable a)) (entry.Shared (on.Pollable b)) e none = none
 stays_apart (entry.Stream to (stream.Polled a)) (entry.Stream at (stream.Polled b)) e none = refl
+stays_apart (entry.Own (kept.Deadline a)) (entry.Own (kept.Deadline b)) e none = refl
 stays_apart old new e none = absurd (true≢false (sym e))
 
 kept_still : (own : Own) (n : ℕ) (it : Entry) (o : Option (Held Entry)) → held_at own.table n ≡ o → may_change (entry_in o) it ≡ true → is_shared it ≡ false → (m : ℕ) → standing_in (with_kept own n it) m ≡ standing_in own m
@@ -248,15 +251,16 @@ module _ (input front : List ℕ) (shared : Shared) (guests : ℕ → Option Gue
       (subst (λ s. Does input front shared guests live told g guest (called_by guest.own done) (entry_bytes (standing_by (entry.Shared e) parent) it input now) (λ answer s'. EntryRule s it input now g n answer s')) (sym stands) does)
       (ap (λ s. entry_bytes s it input now (act done.deed guest.own).reply) (sym stands))
 
-  entry_next : (it : EntryCall) (n : ℕ) (o : Option (Held Entry)) (streams : Streams) → held_at guest.own.table n ≡ o → Goes (call.On n it) (answer_at the_rules it (record { guest = g; number = n }) (entry_in o) guest shared streams)
-  entry_next it n None streams held = apart_next it n (Tell (tell.Trap ResourceNotPresent)) streams (ap standing_at held)
-  entry_next it n (Some held) streams is_held = by held.entry held.parent is_held
+  entry_next : (clocks : Clocks) (it : EntryCall) (n : ℕ) (o : Option (Held Entry)) (streams : Streams) → held_at guest.own.table n ≡ o → Goes (call.On n it) (answer_at (the_calls clocks) it (record { guest = g; number = n }) (entry_in o) guest shared streams)
+  entry_next clocks it n None streams held = apart_next it n (Tell (tell.Trap ResourceNotPresent)) streams (ap standing_at held)
+  entry_next clocks it n (Some held) streams is_held = by held.entry held.parent is_held
     where
-      by : (e : Entry) (parent : Option ℕ) → held_at guest.own.table n ≡ Some (record { entry = e; parent = parent }) → Goes (call.On n it) (answer_at the_rules it (record { guest = g; number = n }) (Some e) guest shared streams)
+      by : (e : Entry) (parent : Option ℕ) → held_at guest.own.table n ≡ Some (record { entry = e; parent = parent }) → Goes (call.On n it) (answer_at (the_calls clocks) it (record { guest = g; number = n }) (Some e) guest shared streams)
       by (entry.Shared e) parent held = shared_next it n e parent streams held
       by (entry.Stream standard.Input e) parent held = let done : Doing InStream = called it (record { guest = g; number = n }) e (input_at guest.settings.input streams) in apart_next it n done.deed (put_input guest.settings.input done.left streams) (ap standing_at held)
       by (entry.Stream standard.Output e) parent held = let done : Doing OutStream = sent it standard.Output (record { guest = g; number = n }) e (output_at guest.settings.stdout streams) in apart_next it n done.deed (put_output guest.settings.stdout done.left streams) (ap standing_at held)
       by (entry.Stream standard.Error e) parent held = let done : Doing OutStream = sent it standard.Error (record { guest = g; number = n }) e (output_at guest.settings.stderr streams) in apart_next it n done.deed (put_output guest.settings.stderr done.left streams) (ap standing_at held)
+      by (entry.Own e) parent held = apart_next it n (awaited clocks it (record { guest = g; number = n }) e) streams (ap standing_at held)
 
   -- ---- a drop
   drop_next : (n : ℕ) (streams : Streams) → Goes (call.Drop n) (settled guest (dropped n guest.own) shared streams)
@@ -270,14 +274,14 @@ module _ (input front : List ℕ) (shared : Shared) (guests : ℕ → Option Gue
   own_next : (it : OwnCall) (deed : Deed) (streams : Streams) → Goes (call.Own it) (settled guest (act (apart deed) guest.own) shared streams)
   own_next it deed streams = other (call.Own it) (act (apart deed) guest.own) streams (follow (call.Own it) (apart deed) (λ live. refl)) (stands_still guest.own (live g) is.own deed) (λ s' e. e) refl
 
-  pub goes_next : (c : Call) (streams : Streams) → Goes c (answer_to the_rules c g guest shared streams)
-  goes_next (call.Open it how) streams = opens it how guest.settings.input streams refl
-  goes_next (call.On n it) streams = entry_next it n (held_at guest.own.table n) streams refl
-  goes_next (call.Drop n) streams = drop_next n (leave_entry (leaver.Entry (record { guest = g; number = n })) (entry_at guest.own n) guest.settings streams)
-  goes_next (call.Own it) streams = own_next it (own_deed it guest.settings guest.own) streams
+  pub goes_next : (clocks : Clocks) (c : Call) (streams : Streams) → Goes c (answer_to (the_calls clocks) c g guest shared streams)
+  goes_next clocks (call.Open it how) streams = opens it how guest.settings.input streams refl
+  goes_next clocks (call.On n it) streams = entry_next clocks it n (held_at guest.own.table n) streams refl
+  goes_next clocks (call.Drop n) streams = drop_next n (leave_entry (leaver.Entry (record { guest = g; number = n })) (entry_at guest.own n) guest.settings streams)
+  goes_next clocks (call.Own it) streams = own_next it (own_deed clocks it guest.settings guest.own) streams
 
-pub call_next : (b : Bool) (c : Call) (input front : List ℕ) (shared : Shared) (guests : ℕ → Option Guest) (live : ℕ → FinSet nat_cmp) (told : Told) (g : ℕ) (guest : Guest) (streams : Streams) → guest.ended ≡ b → guests g ≡ Some guest → IsGuest guest (live g) → ((m : ℕ) → OwnedBy (guests m) (live m)) → IsSound shared → input ≡ front ++ (shared.held ++ told.left) → let done : Answered = answer_by b the_rules c g guest shared streams in Next input front shared guests live told (λ s. call_bytes b c input s g done.reply) (λ s s'. EndedRule b c input s g done.reply s') done.shared (at_number guests g (Some done.guest)) told
-call_next true c input front shared guests live told g guest streams ended there is owned sound input_is = record {
+pub call_next : (clocks : Clocks) (b : Bool) (c : Call) (input front : List ℕ) (shared : Shared) (guests : ℕ → Option Guest) (live : ℕ → FinSet nat_cmp) (told : Told) (g : ℕ) (guest : Guest) (streams : Streams) → guest.ended ≡ b → guests g ≡ Some guest → IsGuest guest (live g) → ((m : ℕ) → OwnedBy (guests m) (live m)) → IsSound shared → input ≡ front ++ (shared.held ++ told.left) → let done : Answered = answer_by b (the_calls clocks) c g guest shared streams in Next input front shared guests live told (λ s. call_bytes b c input s g done.reply) (λ s s'. EndedRule b c input s g done.reply s') done.shared (at_number guests g (Some done.guest)) told
+call_next clocks true c input front shared guests live told g guest streams ended there is owned sound input_is = record {
   front' = front;
   live' = at_number live g (live g);
   front_is = sym (append-nil front);
@@ -286,5 +290,5 @@ call_next true c input front shared guests live told g guest streams ended there
   owned = owned_put guests live g (Some (with_own guest guest.own)) (live g) owned (record { own = is.own; fresh = λ e. absurd (true≢false e) });
   rule = (refl, (λ i. shown front shared (at_number guests g (Some (with_own guest guest.own))) (λ m. cond_same live m g (live g) refl i) told) ∙ put_same front shared guests live told g guest there);
 }
-call_next false c input front shared guests live told g guest streams ended there is owned sound input_is =
-    goes_next input front shared guests live told g guest ended there is owned sound input_is c streams
+call_next clocks false c input front shared guests live told g guest streams ended there is owned sound input_is =
+    goes_next input front shared guests live told g guest ended there is owned sound input_is clocks c streams

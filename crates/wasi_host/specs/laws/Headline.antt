@@ -28,7 +28,7 @@ use Rattle.wasi_reply.specs.laws.ReplyLines.{are_lines}
 use Rattle.wasi_host.specs.declared.entry.Entry.{Entry}
 use Rattle.wasi_host.specs.declared.stream.OutStream.{OutStream}
 use Rattle.wasi_host.specs.OutStreams.{taken_of}
-use Rattle.wasi_host.specs.Host.{Named, the_rules, Guest, Host, Answered, configured, new_guest, was_called_in, answer, answer_in, names_in, names_of, new_host, given_for, told_for, size_read, turn_told, after_turn, step_reply, step_host, step_told, replies, host_end, told_end}
+use Rattle.wasi_host.specs.Host.{Named, the_calls, Guest, Host, Answered, configured, new_guest, was_called_in, answer, answer_in, names_in, names_of, new_host, given_for, told_for, size_read, turn_told, after_turn, step_reply, step_host, step_told, replies, host_end, told_end}
 use Rattle.wasi_host.specs.Run.{Standing, Sharing, is_shared, Rule, WorkerRule, setting_row, step_bytes, call_bytes, IsRun, at_number, at_start, EndedRule}
 use Rattle.wasi_host.specs.Transcript.{ShowsRun, transcript, told_after_run, outputs_of}
 use Rattle.wasi_host.specs.laws.Entries.{IsOwn, own_new}
@@ -142,10 +142,10 @@ configured_on input n it host told at (Some guest) e fits =
 abbrev CallNext : List ℕ → List ℕ → (ℕ → FinSet nat_cmp) → Host → Told → ℕ → Call → Bool → Answered → Type 0
 CallNext input front live host told n c ended done = Next input front host.shared (guests_of host.guests) live told (λ s. call_bytes ended c input s n done.reply) (λ s s'. EndedRule ended c input s n done.reply s') done.shared (at_number (guests_of host.guests) n (Some done.guest)) told
 
-call_next_in : (o : Option Guest) (input : List ℕ) (n : ℕ) (c : Call) (host : Host) (told : Told) (at : At input host told) → guests_of host.guests n ≡ o → is_some o ≡ true → CallNext input at.front at.live host told n c (ended_in o) (answer_in the_rules c n o host.shared host.streams)
+call_next_in : (o : Option Guest) (input : List ℕ) (n : ℕ) (c : Call) (host : Host) (told : Told) (at : At input host told) → guests_of host.guests n ≡ o → is_some o ≡ true → CallNext input at.front at.live host told n c (ended_in o) (answer_in (the_calls host.clocks) c n o host.shared host.streams)
 call_next_in None input n c host told at e some = absurd (cc)
 call_next_in (Some guest) input n c host told at e some =
-    call_next guest.ended c input at.front host.shared (guests_of host.guests) at.live told n guest host.streams refl e (subst (λ o. OwnedBy o (at.live n)) e (at.owned n)) at.owned at.sound at.input_is
+    call_next host.clocks guest.ended c input at.front host.shared (guests_of host.guests) at.live told n guest host.streams refl e (subst (λ o. OwnedBy o (at.live n)) e (at.owned n)) at.owned at.sound at.input_is
 
 -- ---- the worker's turn
 worker_on : (input : List ℕ) (it : WorkerTurn) (host : Host) (told : Told) (at : At input host told) → Next input at.front host.shared (guests_of host.guests) at.live told (λ s. []) (λ s s'. WorkerRule it s (turn_told it host.shared (given_for (size_read (line.Worker it) host) told)) s') (after_turn it host.shared (given_for (size_read (line.Worker it) host) told)) (guests_of host.guests) (told_for (size_read (line.Worker it) host) told)
@@ -176,7 +176,7 @@ step_on input (line.Guest n reads) host told at fits =
     }
 step_on input (line.Configure n it) host told at fits = configured_on input n it host told at (guests_of host.guests n) refl fits
 step_on input (line.Call n c) host told at fits =
-    let done = answer the_rules c n host in
+    let done = answer (the_calls host.clocks) c n host in
     let there : is_some (guests_of host.guests n) ≡ true = fits in
     let next = call_next_in (guests_of host.guests n) input n c host told at refl there in
     let below : n < length host.guests = within host.guests n there in
@@ -194,6 +194,7 @@ step_on input (line.Call n c) host told at fits =
       rule = subst (λ guests. EndedRule (ended_in (guests_of host.guests n)) c input (shown at.front host.shared (guests_of host.guests) at.live told) n done.reply (shown next.front' done.shared guests next.live' told)) (sym put) next.rule;
     }
 step_on input (line.Turn it) host told at fits = record { next = record { front = at.front; live = at.live; input_is = at.input_is; sound = at.sound; owned = at.owned; places = at.places }; front_is = sym (append-nil at.front); rule = refl }
+step_on input (line.Clock it) host told at fits = record { next = record { front = at.front; live = at.live; input_is = at.input_is; sound = at.sound; owned = at.owned; places = at.places }; front_is = sym (append-nil at.front); rule = (refl, refl) }
 step_on input (line.Worker it) host told at fits =
     let next = worker_on input it host told at in
     record {

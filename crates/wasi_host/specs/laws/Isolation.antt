@@ -51,6 +51,7 @@ use Rattle.wasi_host.specs.InStreams.{input_without}
 use Rattle.wasi_host.specs.OutStreams.{taken_of, output_without}
 use Rattle.wasi_host.specs.Deeds.{Own, Done, trapped, entry_at, may_make, may_change, made, with_kept, act, dropped, dropped_at, is_shared, apart}
 use Rattle.wasi_host.specs.Calls.{Owner, opened}
+use Rattle.wasi_host.specs.Clocks.{Clocks, clocks_after}
 use Rattle.wasi_host.specs.Host.{Named, Guest, left_own, left_guest, Streams, taken_out, put_back, input_at, put_input, output_at, put_output, leave_input, leave_output, leave_entry, leave_all, left_streams, Host, Rules, the_rules, Answered, guest_of, new_guest, configured, new_host, new_input, new_output, answer_at, answer_to, answer_by, answer_in, answer, given_for, size_read, step_reply, step_host, step_told, reply_by, host_by, replies, host_end}
 use Rattle.wasi_host.specs.Host as host
 use Rattle.wasi_host.specs.Run as run
@@ -246,6 +247,7 @@ module _ (rules : Rules) (mine : List ℕ → Bool) (g : ℕ) where
     guest : guest_of one g ≡ guest_of two g
     places : length one.guests ≡ length two.guests
     streams : Same one.streams two.streams
+    clocks : one.clocks ≡ two.clocks
 
   -- a guest that names what is the guest's own exactly where it is that one, which then has nothing of the shared input
   record Fits (own : Bool) (guest : Guest) : Type 0 where
@@ -273,12 +275,13 @@ module _ (rules : Rules) (mine : List ℕ → Bool) (g : ℕ) where
   put_output_other (output.Named n) it streams apart = record { inputs = refl; outputs = kept_other mine n it streams.outputs apart }
   put_output_other other it streams apart = same_refl streams
 
-  at_other : (it : EntryCall) (at : Owner) (o : Option Entry) (guest : Guest) (s : Shared) (streams : Streams) → Fits false guest → Same (answer_at rules it at o guest s streams).streams streams
-  at_other it at None guest s streams fits = same_refl streams
-  at_other it at (Some (entry.Shared e)) guest s streams fits = same_refl streams
-  at_other it at (Some (entry.Stream standard.Input e)) guest s streams fits = put_input_other guest.settings.input _ streams fits.reads
-  at_other it at (Some (entry.Stream standard.Output e)) guest s streams fits = put_output_other guest.settings.stdout _ streams fits.writes
-  at_other it at (Some (entry.Stream standard.Error e)) guest s streams fits = put_output_other guest.settings.stderr _ streams fits.tells
+  at_other : (clocks : Clocks) (it : EntryCall) (at : Owner) (o : Option Entry) (guest : Guest) (s : Shared) (streams : Streams) → Fits false guest → Same (answer_at (rules.calls clocks) it at o guest s streams).streams streams
+  at_other clocks it at None guest s streams fits = same_refl streams
+  at_other clocks it at (Some (entry.Shared e)) guest s streams fits = same_refl streams
+  at_other clocks it at (Some (entry.Stream standard.Input e)) guest s streams fits = put_input_other guest.settings.input _ streams fits.reads
+  at_other clocks it at (Some (entry.Stream standard.Output e)) guest s streams fits = put_output_other guest.settings.stdout _ streams fits.writes
+  at_other clocks it at (Some (entry.Stream standard.Error e)) guest s streams fits = put_output_other guest.settings.stderr _ streams fits.tells
+  at_other clocks it at (Some (entry.Own e)) guest s streams fits = same_refl streams
 
   trans_same : (three two one : Streams) → Same three two → Same two one → Same three one
   trans_same three two one b a = record { inputs = b.inputs ∙ a.inputs; outputs = b.outputs ∙ a.outputs }
@@ -286,6 +289,7 @@ module _ (rules : Rules) (mine : List ℕ → Bool) (g : ℕ) where
   entry_other : (who : Leaver) (o : Option Entry) (guest : Guest) (streams : Streams) → Fits false guest → Same (leave_entry who o guest.settings streams) streams
   entry_other who None guest streams fits = same_refl streams
   entry_other who (Some (entry.Shared e)) guest streams fits = same_refl streams
+  entry_other who (Some (entry.Own e)) guest streams fits = same_refl streams
   entry_other who (Some (entry.Stream standard.Input e)) guest streams fits = put_input_other guest.settings.input _ streams fits.reads
   entry_other who (Some (entry.Stream standard.Output e)) guest streams fits = put_output_other guest.settings.stdout _ streams fits.writes
   entry_other who (Some (entry.Stream standard.Error e)) guest streams fits = put_output_other guest.settings.stderr _ streams fits.tells
@@ -297,34 +301,35 @@ module _ (rules : Rules) (mine : List ℕ → Bool) (g : ℕ) where
       trans_same (leave_output who guest.settings.stderr two) two streams (put_output_other guest.settings.stderr _ two fits.tells) (trans_same two one streams (put_output_other guest.settings.stdout _ one fits.writes) (put_input_other guest.settings.input _ streams fits.reads))
   left_other false who guest streams fits = same_refl streams
 
-  to_other : (c : Call) (k : ℕ) (guest : Guest) (s : Shared) (streams : Streams) → Fits false guest → Same (answer_to rules c k guest s streams).streams streams
-  to_other (call.On n it) k guest s streams fits = at_other it (record { guest = k; number = n }) (entry_at guest.own n) guest s streams fits
-  to_other (call.Drop n) k guest s streams fits = entry_other (leaver.Entry (record { guest = k; number = n })) (entry_at guest.own n) guest streams fits
-  to_other other k guest s streams fits = same_refl streams
+  to_other : (clocks : Clocks) (c : Call) (k : ℕ) (guest : Guest) (s : Shared) (streams : Streams) → Fits false guest → Same (answer_to (rules.calls clocks) c k guest s streams).streams streams
+  to_other clocks (call.On n it) k guest s streams fits = at_other clocks it (record { guest = k; number = n }) (entry_at guest.own n) guest s streams fits
+  to_other clocks (call.Drop n) k guest s streams fits = entry_other (leaver.Entry (record { guest = k; number = n })) (entry_at guest.own n) guest streams fits
+  to_other clocks other k guest s streams fits = same_refl streams
 
-  by_other : (b : Bool) (c : Call) (k : ℕ) (guest : Guest) (s : Shared) (streams : Streams) → Fits false guest → Same (answer_by b rules c k guest s streams).streams streams
-  by_other true c k guest s streams fits = same_refl streams
-  by_other false c k guest s streams fits = let done = answer_to rules c k guest s streams in trans_same (left_streams done.reply k guest.settings done.streams) done.streams streams (left_other (ends done.reply) (leaver.Guest k) guest done.streams fits) (to_other c k guest s streams fits)
+  by_other : (clocks : Clocks) (b : Bool) (c : Call) (k : ℕ) (guest : Guest) (s : Shared) (streams : Streams) → Fits false guest → Same (answer_by b (rules.calls clocks) c k guest s streams).streams streams
+  by_other clocks true c k guest s streams fits = same_refl streams
+  by_other clocks false c k guest s streams fits = let done = answer_to (rules.calls clocks) c k guest s streams in trans_same (left_streams done.reply k guest.settings done.streams) done.streams streams (left_other (ends done.reply) (leaver.Guest k) guest done.streams fits) (to_other clocks c k guest s streams fits)
 
-  in_other : (c : Call) (k : ℕ) (o : Option Guest) (s : Shared) (streams : Streams) → nat_eq k g ≡ false → FitsAt k o → Same (answer_in rules c k o s streams).streams streams
-  in_other c k None s streams apart fits = same_refl streams
-  in_other c k (Some guest) s streams apart fits = by_other guest.ended c k guest s streams (subst (λ own. Fits own guest) apart fits)
+  in_other : (clocks : Clocks) (c : Call) (k : ℕ) (o : Option Guest) (s : Shared) (streams : Streams) → nat_eq k g ≡ false → FitsAt k o → Same (answer_in (rules.calls clocks) c k o s streams).streams streams
+  in_other clocks c k None s streams apart fits = same_refl streams
+  in_other clocks c k (Some guest) s streams apart fits = by_other clocks guest.ended c k guest s streams (subst (λ own. Fits own guest) apart fits)
 
   -- ---- a line that the guest does not see leaves what it can tell apart
-  elsewhere : (host : Host) (k : ℕ) (x : Option Guest) (s : Shared) (streams : Streams) → nat_eq k g ≡ false → Same streams host.streams → Alike (record { shared = s; guests = set host.guests k x; streams = streams }) host
-  elsewhere host k x s streams apart same = record { guest = set_apart host.guests k g x None apart; places = length-set host.guests k x; streams = same }
+  elsewhere : (host : Host) (k : ℕ) (x : Option Guest) (s : Shared) (streams : Streams) → nat_eq k g ≡ false → Same streams host.streams → Alike (record { shared = s; guests = set host.guests k x; streams = streams; clocks = host.clocks }) host
+  elsewhere host k x s streams apart same = record { guest = set_apart host.guests k g x None apart; places = length-set host.guests k x; streams = same; clocks = refl }
 
   unseen : (step : Line) (host : Host) (given : Given) → AllFit host → is_seen mine g step ≡ false → Alike (host_by rules step host given) host
-  unseen (line.Input name it) host given fits e = record { guest = refl; places = refl; streams = record { inputs = kept_same mine host.streams.inputs name (new_input it) e; outputs = refl } }
-  unseen (line.Output name it) host given fits e = record { guest = refl; places = refl; streams = record { inputs = refl; outputs = kept_same mine host.streams.outputs name (new_output it) e } }
+  unseen (line.Input name it) host given fits e = record { guest = refl; places = refl; streams = record { inputs = kept_same mine host.streams.inputs name (new_input it) e; outputs = refl }; clocks = refl }
+  unseen (line.Output name it) host given fits e = record { guest = refl; places = refl; streams = record { inputs = refl; outputs = kept_same mine host.streams.outputs name (new_output it) e }; clocks = refl }
   unseen (line.Guest k it) host given fits e = elsewhere host k (Some (new_guest it)) host.shared host.streams e (same_refl host.streams)
   unseen (line.Configure k it) host given fits e = elsewhere host k (option_map (configured it) (guest_of host k)) host.shared host.streams e (same_refl host.streams)
   unseen (line.Call k c) host given fits e =
-      let done = answer rules c k host in
-      elsewhere host k (Some done.guest) done.shared done.streams e (in_other c k (guest_of host k) host.shared host.streams e (fits k))
-  unseen (line.Turn (task.Reader name)) host given fits e = record { guest = refl; places = refl; streams = put_input_other (input.Named name) (rules.read_ahead (input_at (input.Named name) host.streams)).left host.streams e }
-  unseen (line.Turn (task.Writer name)) host given fits e = record { guest = refl; places = refl; streams = put_output_other (output.Named name) (rules.written_behind (output_at (output.Named name) host.streams)).left host.streams e }
-  unseen (line.Worker it) host given fits e = record { guest = refl; places = refl; streams = same_refl host.streams }
+      let done = answer (rules.calls host.clocks) c k host in
+      elsewhere host k (Some done.guest) done.shared done.streams e (in_other host.clocks c k (guest_of host k) host.shared host.streams e (fits k))
+  unseen (line.Turn (task.Reader name)) host given fits e = record { guest = refl; places = refl; streams = put_input_other (input.Named name) (rules.read_ahead (input_at (input.Named name) host.streams)).left host.streams e; clocks = refl }
+  unseen (line.Turn (task.Writer name)) host given fits e = record { guest = refl; places = refl; streams = put_output_other (output.Named name) (rules.written_behind (output_at (output.Named name) host.streams)).left host.streams e; clocks = refl }
+  unseen (line.Worker it) host given fits e = record { guest = refl; places = refl; streams = same_refl host.streams; clocks = refl }
+  unseen (line.Clock it) host given fits e = absurd (true≢false e)
 
   -- ---- a call of the guest
   record Tells (one two : Answered) : Type 0 where
@@ -349,31 +354,32 @@ module _ (rules : Rules) (mine : List ℕ → Bool) (g : ℕ) where
   put_output_same (output.Named n) a b one two apart e same = record { inputs = same.inputs; outputs = kept_own mine n a one.outputs apart ∙ (λ i. put_back n (e i) (same.outputs i)) ∙ sym (kept_own mine n b two.outputs apart) }
   put_output_same other a b one two apart e same = same
 
-  on_output : (it : EntryCall) (at : Owner) (which : Standard) (e : StreamEntry) (to : Output) (guest : Guest) (s s' : Shared) (one two : Streams) → OutputApart mine true to → Same one two → Tells (host.on_output (rules.sent it which at e (output_at to one)) to guest s one) (host.on_output (rules.sent it which at e (output_at to two)) to guest s' two)
-  on_output it at which e to guest s s' one two named same =
+  on_output : (clocks : Clocks) (it : EntryCall) (at : Owner) (which : Standard) (e : StreamEntry) (to : Output) (guest : Guest) (s s' : Shared) (one two : Streams) → OutputApart mine true to → Same one two → Tells (host.on_output ((rules.calls clocks).sent it which at e (output_at to one)) to guest s one) (host.on_output ((rules.calls clocks).sent it which at e (output_at to two)) to guest s' two)
+  on_output clocks it at which e to guest s s' one two named same =
       let stream = output_same to one two named same in
       record {
-        reply = ap (λ stream. (act (apart (rules.sent it which at e stream).deed) guest.own).reply) stream;
-        guest = ap (λ stream. let done : Done = act (apart (rules.sent it which at e stream).deed) guest.own in left_guest guest done.reply done.own) stream;
-        streams = put_output_same to (rules.sent it which at e (output_at to one)).left (rules.sent it which at e (output_at to two)).left one two named (ap (λ stream. (rules.sent it which at e stream).left) stream) same;
+        reply = ap (λ stream. (act (apart ((rules.calls clocks).sent it which at e stream).deed) guest.own).reply) stream;
+        guest = ap (λ stream. let done : Done = act (apart ((rules.calls clocks).sent it which at e stream).deed) guest.own in left_guest guest done.reply done.own) stream;
+        streams = put_output_same to ((rules.calls clocks).sent it which at e (output_at to one)).left ((rules.calls clocks).sent it which at e (output_at to two)).left one two named (ap (λ stream. ((rules.calls clocks).sent it which at e stream).left) stream) same;
       }
 
-  at_told : (it : EntryCall) (at : Owner) (o : Option (Held Entry)) (guest : Guest) (s s' : Shared) (one two : Streams) → shared_in o ≡ false → Fits true guest → Same one two → Tells (answer_at rules it at (entry_in o) guest s one) (answer_at rules it at (entry_in o) guest s' two)
+  at_told : (clocks : Clocks) (it : EntryCall) (at : Owner) (o : Option (Held Entry)) (guest : Guest) (s s' : Shared) (one two : Streams) → shared_in o ≡ false → Fits true guest → Same one two → Tells (answer_at (rules.calls clocks) it at (entry_in o) guest s one) (answer_at (rules.calls clocks) it at (entry_in o) guest s' two)
   unfolding shared_in
-  at_told it at None guest s s' one two none fits same = record { reply = refl; guest = refl; streams = same }
-  at_told it at (Some held) guest s s' one two none fits same = by held.entry none
+  at_told clocks it at None guest s s' one two none fits same = record { reply = refl; guest = refl; streams = same }
+  at_told clocks it at (Some held) guest s s' one two none fits same = by held.entry none
     where
-      by : (e : Entry) → is_shared e ≡ false → Tells (answer_at rules it at (Some e) guest s one) (answer_at rules it at (Some e) guest s' two)
+      by : (e : Entry) → is_shared e ≡ false → Tells (answer_at (rules.calls clocks) it at (Some e) guest s one) (answer_at (rules.calls clocks) it at (Some e) guest s' two)
       by (entry.Shared e) none = absurd (true≢false none)
       by (entry.Stream standard.Input e) none =
           let stream = input_same guest.settings.input one two fits.reads same in
           record {
-            reply = ap (λ stream. (act (apart (rules.called it at e stream).deed) guest.own).reply) stream;
-            guest = ap (λ stream. let done : Done = act (apart (rules.called it at e stream).deed) guest.own in left_guest guest done.reply done.own) stream;
-            streams = put_input_same guest.settings.input (rules.called it at e (input_at guest.settings.input one)).left (rules.called it at e (input_at guest.settings.input two)).left one two fits.reads (ap (λ stream. (rules.called it at e stream).left) stream) same;
+            reply = ap (λ stream. (act (apart ((rules.calls clocks).called it at e stream).deed) guest.own).reply) stream;
+            guest = ap (λ stream. let done : Done = act (apart ((rules.calls clocks).called it at e stream).deed) guest.own in left_guest guest done.reply done.own) stream;
+            streams = put_input_same guest.settings.input ((rules.calls clocks).called it at e (input_at guest.settings.input one)).left ((rules.calls clocks).called it at e (input_at guest.settings.input two)).left one two fits.reads (ap (λ stream. ((rules.calls clocks).called it at e stream).left) stream) same;
           }
-      by (entry.Stream standard.Output e) none = on_output it at standard.Output e guest.settings.stdout guest s s' one two fits.writes same
-      by (entry.Stream standard.Error e) none = on_output it at standard.Error e guest.settings.stderr guest s s' one two fits.tells same
+      by (entry.Stream standard.Output e) none = on_output clocks it at standard.Output e guest.settings.stdout guest s s' one two fits.writes same
+      by (entry.Stream standard.Error e) none = on_output clocks it at standard.Error e guest.settings.stderr guest s s' one two fits.tells same
+      by (entry.Own e) none = record { reply = refl; guest = refl; streams = same }
 
   leave_input_same : (who : Leaver) (from : Input) (one two : Streams) → InputApart mine true from → Same one two → Same (leave_input who from one) (leave_input who from two)
   leave_input_same who from one two apart same = put_input_same from (input_without who (input_at from one)) (input_without who (input_at from two)) one two apart (ap (input_without who) (input_same from one two apart same)) same
@@ -384,6 +390,7 @@ module _ (rules : Rules) (mine : List ℕ → Bool) (g : ℕ) where
   entry_same : (who : Leaver) (o : Option Entry) (guest : Guest) (one two : Streams) → Fits true guest → Same one two → Same (leave_entry who o guest.settings one) (leave_entry who o guest.settings two)
   entry_same who None guest one two fits same = same
   entry_same who (Some (entry.Shared e)) guest one two fits same = same
+  entry_same who (Some (entry.Own e)) guest one two fits same = same
   entry_same who (Some (entry.Stream standard.Input e)) guest one two fits same = leave_input_same who guest.settings.input one two fits.reads same
   entry_same who (Some (entry.Stream standard.Output e)) guest one two fits same = leave_output_same who guest.settings.stdout one two fits.writes same
   entry_same who (Some (entry.Stream standard.Error e)) guest one two fits same = leave_output_same who guest.settings.stderr one two fits.tells same
@@ -395,18 +402,18 @@ module _ (rules : Rules) (mine : List ℕ → Bool) (g : ℕ) where
       leave_output_same who guest.settings.stderr (leave_output who guest.settings.stdout (leave_input who guest.settings.input one)) (leave_output who guest.settings.stdout (leave_input who guest.settings.input two)) fits.tells written
   left_same false who guest one two fits same = same
 
-  to_told : (c : Call) (k : ℕ) (guest : Guest) (s s' : Shared) (one two : Streams) → Fits true guest → Same one two → Tells (answer_to rules c k guest s one) (answer_to rules c k guest s' two)
-  to_told (call.On n it) k guest s s' one two fits same = at_told it (record { guest = k; number = n }) (held_at guest.own.table n) guest s s' one two (fits.unshared refl n) fits same
-  to_told (call.Open it how) k guest s s' one two fits same = record { reply = refl; guest = refl; streams = same }
-  to_told (call.Drop n) k guest s s' one two fits same = record { reply = refl; guest = refl; streams = entry_same (leaver.Entry (record { guest = k; number = n })) (entry_at guest.own n) guest one two fits same }
-  to_told (call.Own it) k guest s s' one two fits same = record { reply = refl; guest = refl; streams = same }
+  to_told : (clocks : Clocks) (c : Call) (k : ℕ) (guest : Guest) (s s' : Shared) (one two : Streams) → Fits true guest → Same one two → Tells (answer_to (rules.calls clocks) c k guest s one) (answer_to (rules.calls clocks) c k guest s' two)
+  to_told clocks (call.On n it) k guest s s' one two fits same = at_told clocks it (record { guest = k; number = n }) (held_at guest.own.table n) guest s s' one two (fits.unshared refl n) fits same
+  to_told clocks (call.Open it how) k guest s s' one two fits same = record { reply = refl; guest = refl; streams = same }
+  to_told clocks (call.Drop n) k guest s s' one two fits same = record { reply = refl; guest = refl; streams = entry_same (leaver.Entry (record { guest = k; number = n })) (entry_at guest.own n) guest one two fits same }
+  to_told clocks (call.Own it) k guest s s' one two fits same = record { reply = refl; guest = refl; streams = same }
 
-  by_told : (b : Bool) (c : Call) (k : ℕ) (guest : Guest) (s s' : Shared) (one two : Streams) → Fits true guest → Same one two → Tells (answer_by b rules c k guest s one) (answer_by b rules c k guest s' two)
-  by_told true c k guest s s' one two fits same = record { reply = refl; guest = refl; streams = same }
-  by_told false c k guest s s' one two fits same =
-      let a = answer_to rules c k guest s one in
-      let b = answer_to rules c k guest s' two in
-      let told = to_told c k guest s s' one two fits same in
+  by_told : (clocks : Clocks) (b : Bool) (c : Call) (k : ℕ) (guest : Guest) (s s' : Shared) (one two : Streams) → Fits true guest → Same one two → Tells (answer_by b (rules.calls clocks) c k guest s one) (answer_by b (rules.calls clocks) c k guest s' two)
+  by_told clocks true c k guest s s' one two fits same = record { reply = refl; guest = refl; streams = same }
+  by_told clocks false c k guest s s' one two fits same =
+      let a = answer_to (rules.calls clocks) c k guest s one in
+      let b = answer_to (rules.calls clocks) c k guest s' two in
+      let told = to_told clocks c k guest s s' one two fits same in
       record {
         reply = told.reply;
         guest = told.guest;
@@ -415,36 +422,37 @@ module _ (rules : Rules) (mine : List ℕ → Bool) (g : ℕ) where
             (record { inputs = ap (λ answer. kept mine (left_streams answer k guest.settings b.streams).inputs) told.reply; outputs = ap (λ answer. kept mine (left_streams answer k guest.settings b.streams).outputs) told.reply });
       }
 
-  in_told : (c : Call) (k : ℕ) (o : Option Guest) (s s' : Shared) (one two : Streams) → nat_eq k g ≡ true → FitsAt k o → Same one two → Tells (answer_in rules c k o s one) (answer_in rules c k o s' two)
-  in_told c k None s s' one two own fits same = record { reply = refl; guest = refl; streams = same }
-  in_told c k (Some guest) s s' one two own fits same = by_told guest.ended c k guest s s' one two (subst (λ own. Fits own guest) own fits) same
+  in_told : (clocks : Clocks) (c : Call) (k : ℕ) (o : Option Guest) (s s' : Shared) (one two : Streams) → nat_eq k g ≡ true → FitsAt k o → Same one two → Tells (answer_in (rules.calls clocks) c k o s one) (answer_in (rules.calls clocks) c k o s' two)
+  in_told clocks c k None s s' one two own fits same = record { reply = refl; guest = refl; streams = same }
+  in_told clocks c k (Some guest) s s' one two own fits same = by_told clocks guest.ended c k guest s s' one two (subst (λ own. Fits own guest) own fits) same
 
   -- ---- a line that the guest sees
   record Seen (one two : Host) (a b : Reply) : Type 0 where
     reply : a ≡ b
     alike : Alike one two
 
-  puts : (one two : Host) (k : ℕ) (x y : Option Guest) (s s' : Shared) (streams streams' : Streams) → x ≡ y → Same streams streams' → Alike one two → Alike (record { shared = s; guests = set one.guests k x; streams = streams }) (record { shared = s'; guests = set two.guests k y; streams = streams' })
+  puts : (one two : Host) (k : ℕ) (x y : Option Guest) (s s' : Shared) (streams streams' : Streams) → x ≡ y → Same streams streams' → Alike one two → Alike (record { shared = s; guests = set one.guests k x; streams = streams; clocks = one.clocks }) (record { shared = s'; guests = set two.guests k y; streams = streams'; clocks = two.clocks })
   puts one two k x y s s' streams streams' e same alike = record {
     guest = set_alike one.guests two.guests k g x None alike.places alike.guest ∙ ap (λ x. get_or (set two.guests k x) g None) e;
     places = length-set one.guests k x ∙ alike.places ∙ sym (length-set two.guests k y);
     streams = same;
+    clocks = alike.clocks;
   }
 
   guests_same : (one two : Host) (k : ℕ) → nat_eq k g ≡ true → Alike one two → guest_of one k ≡ guest_of two k
   guests_same one two k own alike = let same : k ≡ g = eqb-true k g own in subst (λ (k : ℕ). guest_of one k ≡ guest_of two k) (sym same) alike.guest
 
   seen : (step : Line) (one two : Host) (given given' : Given) → AllFit one → Alike one two → is_seen mine g step ≡ true → Seen (host_by rules step one given) (host_by rules step two given') (reply_by rules step one given) (reply_by rules step two given')
-  seen (line.Input name it) one two given given' fits alike e = record { reply = refl; alike = record { guest = alike.guest; places = alike.places; streams = record { inputs = kept_more mine one.streams.inputs name (new_input it) e ∙ ap (λ named. named ++ (name, new_input it) ∷ []) alike.streams.inputs ∙ sym (kept_more mine two.streams.inputs name (new_input it) e); outputs = alike.streams.outputs } } }
-  seen (line.Output name it) one two given given' fits alike e = record { reply = refl; alike = record { guest = alike.guest; places = alike.places; streams = record { inputs = alike.streams.inputs; outputs = kept_more mine one.streams.outputs name (new_output it) e ∙ ap (λ named. named ++ (name, new_output it) ∷ []) alike.streams.outputs ∙ sym (kept_more mine two.streams.outputs name (new_output it) e) } } }
+  seen (line.Input name it) one two given given' fits alike e = record { reply = refl; alike = record { guest = alike.guest; places = alike.places; streams = record { inputs = kept_more mine one.streams.inputs name (new_input it) e ∙ ap (λ named. named ++ (name, new_input it) ∷ []) alike.streams.inputs ∙ sym (kept_more mine two.streams.inputs name (new_input it) e); outputs = alike.streams.outputs }; clocks = alike.clocks } }
+  seen (line.Output name it) one two given given' fits alike e = record { reply = refl; alike = record { guest = alike.guest; places = alike.places; streams = record { inputs = alike.streams.inputs; outputs = kept_more mine one.streams.outputs name (new_output it) e ∙ ap (λ named. named ++ (name, new_output it) ∷ []) alike.streams.outputs ∙ sym (kept_more mine two.streams.outputs name (new_output it) e) }; clocks = alike.clocks } }
   seen (line.Guest k it) one two given given' fits alike e = record { reply = refl; alike = puts one two k (Some (new_guest it)) (Some (new_guest it)) one.shared two.shared one.streams two.streams refl alike.streams alike }
   seen (line.Configure k it) one two given given' fits alike e = record { reply = refl; alike = puts one two k (option_map (configured it) (guest_of one k)) (option_map (configured it) (guest_of two k)) one.shared two.shared one.streams two.streams (ap (option_map (configured it)) (guests_same one two k e alike)) alike.streams alike }
   seen (line.Call k c) one two given given' fits alike e =
-      let done = answer rules c k one in
-      let other : Answered = answer_in rules c k (guest_of one k) two.shared two.streams in
-      let there = answer rules c k two in
-      let told : Tells done other = in_told c k (guest_of one k) one.shared two.shared one.streams two.streams e (fits k) alike.streams in
-      let same : other ≡ there = ap (λ o. answer_in rules c k o two.shared two.streams) (guests_same one two k e alike) in
+      let done = answer (rules.calls one.clocks) c k one in
+      let other : Answered = answer_in (rules.calls one.clocks) c k (guest_of one k) two.shared two.streams in
+      let there = answer (rules.calls two.clocks) c k two in
+      let told : Tells done other = in_told one.clocks c k (guest_of one k) one.shared two.shared one.streams two.streams e (fits k) alike.streams in
+      let same : other ≡ there = λ i. answer_in (rules.calls (alike.clocks i)) c k (guests_same one two k e alike i) two.shared two.streams in
       record {
         reply = told.reply ∙ ap (λ (it : Answered). it.reply) same;
         alike = puts one two k (Some done.guest) (Some there.guest) done.shared there.shared done.streams there.streams (ap Some (told.guest ∙ ap (λ (it : Answered). it.guest) same))
@@ -454,15 +462,16 @@ module _ (rules : Rules) (mine : List ℕ → Bool) (g : ℕ) where
       let stream = input_same (input.Named name) one.streams two.streams e alike.streams in
       record {
         reply = ap (λ stream. reply.Worked (rules.read_ahead stream).told) stream;
-        alike = record { guest = alike.guest; places = alike.places; streams = put_input_same (input.Named name) (rules.read_ahead (input_at (input.Named name) one.streams)).left (rules.read_ahead (input_at (input.Named name) two.streams)).left one.streams two.streams e (ap (λ stream. (rules.read_ahead stream).left) stream) alike.streams };
+        alike = record { guest = alike.guest; places = alike.places; streams = put_input_same (input.Named name) (rules.read_ahead (input_at (input.Named name) one.streams)).left (rules.read_ahead (input_at (input.Named name) two.streams)).left one.streams two.streams e (ap (λ stream. (rules.read_ahead stream).left) stream) alike.streams; clocks = alike.clocks };
       }
   seen (line.Turn (task.Writer name)) one two given given' fits alike e =
       let stream = output_same (output.Named name) one.streams two.streams e alike.streams in
       record {
         reply = ap (λ stream. reply.Worked (rules.written_behind stream).told) stream;
-        alike = record { guest = alike.guest; places = alike.places; streams = put_output_same (output.Named name) (rules.written_behind (output_at (output.Named name) one.streams)).left (rules.written_behind (output_at (output.Named name) two.streams)).left one.streams two.streams e (ap (λ stream. (rules.written_behind stream).left) stream) alike.streams };
+        alike = record { guest = alike.guest; places = alike.places; streams = put_output_same (output.Named name) (rules.written_behind (output_at (output.Named name) one.streams)).left (rules.written_behind (output_at (output.Named name) two.streams)).left one.streams two.streams e (ap (λ stream. (rules.written_behind stream).left) stream) alike.streams; clocks = alike.clocks };
       }
   seen (line.Worker it) one two given given' fits alike e = absurd (true≢false (sym e))
+  seen (line.Clock it) one two given given' fits alike e = record { reply = refl; alike = record { guest = alike.guest; places = alike.places; streams = alike.streams; clocks = ap (clocks_after it) alike.clocks } }
 
   -- ---- each step leaves guests that fit
   configured_fits : (k : ℕ) (it : Setting) (o : Option Guest) → SettingApart mine (nat_eq k g) it → FitsAt k o → FitsAt k (option_map (configured it) o)
@@ -474,16 +483,17 @@ module _ (rules : Rules) (mine : List ℕ → Bool) (g : ℕ) where
   left_fits : (own : Bool) (guest : Guest) (done : Done) → Fits own guest → (own ≡ true → Unshared done.own) → Fits own (left_guest guest done.reply done.own)
   left_fits own guest done fits none = record { reads = fits.reads; writes = fits.writes; tells = fits.tells; unshared = λ is. left_unshared done.own done.reply (none is) }
 
-  at_fits : (own : Bool) (it : EntryCall) (at : Owner) (o : Option (Held Entry)) (guest : Guest) (s : Shared) (streams : Streams) → (own ≡ true → shared_in o ≡ false) → Fits own guest → Fits own (answer_at rules it at (entry_in o) guest s streams).guest
+  at_fits : (clocks : Clocks) (own : Bool) (it : EntryCall) (at : Owner) (o : Option (Held Entry)) (guest : Guest) (s : Shared) (streams : Streams) → (own ≡ true → shared_in o ≡ false) → Fits own guest → Fits own (answer_at (rules.calls clocks) it at (entry_in o) guest s streams).guest
   unfolding shared_in
-  at_fits own it at None guest s streams none fits = left_fits own guest (trapped ResourceNotPresent guest.own) fits fits.unshared
-  at_fits own it at (Some held) guest s streams none fits = by held.entry none
+  at_fits clocks own it at None guest s streams none fits = left_fits own guest (trapped ResourceNotPresent guest.own) fits fits.unshared
+  at_fits clocks own it at (Some held) guest s streams none fits = by held.entry none
     where
-      by : (e : Entry) → (own ≡ true → is_shared e ≡ false) → Fits own (answer_at rules it at (Some e) guest s streams).guest
-      by (entry.Shared e) none = left_fits own guest (act (rules.asked it at e s).deed guest.own) fits (λ is. absurd (true≢false (none is)))
-      by (entry.Stream standard.Input e) none = left_fits own guest (act (apart (rules.called it at e (input_at guest.settings.input streams)).deed) guest.own) fits (λ is. apart_unshared guest.own (fits.unshared is) (rules.called it at e (input_at guest.settings.input streams)).deed)
-      by (entry.Stream standard.Output e) none = left_fits own guest (act (apart (rules.sent it standard.Output at e (output_at guest.settings.stdout streams)).deed) guest.own) fits (λ is. apart_unshared guest.own (fits.unshared is) (rules.sent it standard.Output at e (output_at guest.settings.stdout streams)).deed)
-      by (entry.Stream standard.Error e) none = left_fits own guest (act (apart (rules.sent it standard.Error at e (output_at guest.settings.stderr streams)).deed) guest.own) fits (λ is. apart_unshared guest.own (fits.unshared is) (rules.sent it standard.Error at e (output_at guest.settings.stderr streams)).deed)
+      by : (e : Entry) → (own ≡ true → is_shared e ≡ false) → Fits own (answer_at (rules.calls clocks) it at (Some e) guest s streams).guest
+      by (entry.Shared e) none = left_fits own guest (act ((rules.calls clocks).asked it at e s).deed guest.own) fits (λ is. absurd (true≢false (none is)))
+      by (entry.Stream standard.Input e) none = left_fits own guest (act (apart ((rules.calls clocks).called it at e (input_at guest.settings.input streams)).deed) guest.own) fits (λ is. apart_unshared guest.own (fits.unshared is) ((rules.calls clocks).called it at e (input_at guest.settings.input streams)).deed)
+      by (entry.Stream standard.Output e) none = left_fits own guest (act (apart ((rules.calls clocks).sent it standard.Output at e (output_at guest.settings.stdout streams)).deed) guest.own) fits (λ is. apart_unshared guest.own (fits.unshared is) ((rules.calls clocks).sent it standard.Output at e (output_at guest.settings.stdout streams)).deed)
+      by (entry.Stream standard.Error e) none = left_fits own guest (act (apart ((rules.calls clocks).sent it standard.Error at e (output_at guest.settings.stderr streams)).deed) guest.own) fits (λ is. apart_unshared guest.own (fits.unshared is) ((rules.calls clocks).sent it standard.Error at e (output_at guest.settings.stderr streams)).deed)
+      by (entry.Own e) none = left_fits own guest (act (apart ((rules.calls clocks).awaited it at e)) guest.own) fits (λ is. apart_unshared guest.own (fits.unshared is) ((rules.calls clocks).awaited it at e))
 
   opened_unshared : (from : Input) (it : Standard) (how : Access) → InputApart mine true from → is_shared (opened from it how) ≡ false
   opened_unshared input.Shared standard.Input how apart = absurd (true≢false apart)
@@ -491,28 +501,28 @@ module _ (rules : Rules) (mine : List ℕ → Bool) (g : ℕ) where
   opened_unshared input.Shared standard.Error how apart = absurd (true≢false apart)
   opened_unshared from it how apart = refl
 
-  to_fits : (own : Bool) (c : Call) (k : ℕ) (guest : Guest) (s : Shared) (streams : Streams) → Fits own guest → Fits own (answer_to rules c k guest s streams).guest
-  to_fits own (call.Open it how) k guest s streams fits = left_fits own guest (act (Make (opened guest.settings.input it how) None) guest.own) fits (λ is. make_unshared guest.own (fits.unshared is) (opened guest.settings.input it how) None (opened_unshared guest.settings.input it how (subst (λ own. InputApart mine own guest.settings.input) is fits.reads)))
-  to_fits own (call.On n it) k guest s streams fits = at_fits own it (record { guest = k; number = n }) (held_at guest.own.table n) guest s streams (λ is. fits.unshared is n) fits
-  to_fits own (call.Drop n) k guest s streams fits = left_fits own guest (dropped n guest.own) fits (λ is. dropped_unshared guest.own (fits.unshared is) n (entry_at guest.own n))
-  to_fits own (call.Own it) k guest s streams fits = left_fits own guest (act (apart (rules.owned it guest.settings guest.own)) guest.own) fits (λ is. apart_unshared guest.own (fits.unshared is) (rules.owned it guest.settings guest.own))
+  to_fits : (clocks : Clocks) (own : Bool) (c : Call) (k : ℕ) (guest : Guest) (s : Shared) (streams : Streams) → Fits own guest → Fits own (answer_to (rules.calls clocks) c k guest s streams).guest
+  to_fits clocks own (call.Open it how) k guest s streams fits = left_fits own guest (act (Make (opened guest.settings.input it how) None) guest.own) fits (λ is. make_unshared guest.own (fits.unshared is) (opened guest.settings.input it how) None (opened_unshared guest.settings.input it how (subst (λ own. InputApart mine own guest.settings.input) is fits.reads)))
+  to_fits clocks own (call.On n it) k guest s streams fits = at_fits clocks own it (record { guest = k; number = n }) (held_at guest.own.table n) guest s streams (λ is. fits.unshared is n) fits
+  to_fits clocks own (call.Drop n) k guest s streams fits = left_fits own guest (dropped n guest.own) fits (λ is. dropped_unshared guest.own (fits.unshared is) n (entry_at guest.own n))
+  to_fits clocks own (call.Own it) k guest s streams fits = left_fits own guest (act (apart ((rules.calls clocks).owned it guest.settings guest.own)) guest.own) fits (λ is. apart_unshared guest.own (fits.unshared is) ((rules.calls clocks).owned it guest.settings guest.own))
 
-  by_fits : (own b : Bool) (c : Call) (k : ℕ) (guest : Guest) (s : Shared) (streams : Streams) → Fits own guest → Fits own (answer_by b rules c k guest s streams).guest
-  by_fits own true c k guest s streams fits = record { reads = fits.reads; writes = fits.writes; tells = fits.tells; unshared = fits.unshared }
-  by_fits own false c k guest s streams fits = to_fits own c k guest s streams fits
+  by_fits : (clocks : Clocks) (own b : Bool) (c : Call) (k : ℕ) (guest : Guest) (s : Shared) (streams : Streams) → Fits own guest → Fits own (answer_by b (rules.calls clocks) c k guest s streams).guest
+  by_fits clocks own true c k guest s streams fits = record { reads = fits.reads; writes = fits.writes; tells = fits.tells; unshared = fits.unshared }
+  by_fits clocks own false c k guest s streams fits = to_fits clocks own c k guest s streams fits
 
-  in_fits : (c : Call) (k : ℕ) (o : Option Guest) (s : Shared) (streams : Streams) → FitsAt k o → Fits (nat_eq k g) (answer_in rules c k o s streams).guest
-  in_fits c k None s streams fits = record { reads = tt; writes = tt; tells = tt; unshared = λ own. unshared_new 1024 }
-  in_fits c k (Some guest) s streams fits = by_fits (nat_eq k g) guest.ended c k guest s streams fits
+  in_fits : (clocks : Clocks) (c : Call) (k : ℕ) (o : Option Guest) (s : Shared) (streams : Streams) → FitsAt k o → Fits (nat_eq k g) (answer_in (rules.calls clocks) c k o s streams).guest
+  in_fits clocks c k None s streams fits = record { reads = tt; writes = tt; tells = tt; unshared = λ own. unshared_new 1024 }
+  in_fits clocks c k (Some guest) s streams fits = by_fits clocks (nat_eq k g) guest.ended c k guest s streams fits
 
   all_fit : (step : Line) (host : Host) (given : Given) → LineApart mine g step → AllFit host → AllFit (host_by rules step host given)
   all_fit (line.Guest k it) host given apart fits = set_holds FitsAt host.guests k (Some (new_guest it)) fits (record { reads = apart; writes = tt; tells = tt; unshared = λ own. unshared_new 1024 })
   all_fit (line.Configure k it) host given apart fits = set_holds FitsAt host.guests k (option_map (configured it) (guest_of host k)) fits (configured_fits k it (guest_of host k) apart (fits k))
-  all_fit (line.Call k c) host given apart fits = set_holds FitsAt host.guests k (Some (answer rules c k host).guest) fits (in_fits c k (guest_of host k) host.shared host.streams (fits k))
+  all_fit (line.Call k c) host given apart fits = set_holds FitsAt host.guests k (Some (answer (rules.calls host.clocks) c k host).guest) fits (in_fits host.clocks c k (guest_of host k) host.shared host.streams (fits k))
   all_fit other host given apart fits = fits
 
   trans : (one two three : Host) → Alike one two → Alike two three → Alike one three
-  trans one two three a b = record { guest = a.guest ∙ b.guest; places = a.places ∙ b.places; streams = record { inputs = a.streams.inputs ∙ b.streams.inputs; outputs = a.streams.outputs ∙ b.streams.outputs } }
+  trans one two three a b = record { guest = a.guest ∙ b.guest; places = a.places ∙ b.places; streams = record { inputs = a.streams.inputs ∙ b.streams.inputs; outputs = a.streams.outputs ∙ b.streams.outputs }; clocks = a.clocks ∙ b.clocks }
 
 -- ---- all steps
 none_hold : (P : ℕ → Option Guest → Type 0) (count : ℕ) → ((m : ℕ) → P m None) → (m : ℕ) → P m (get_or (replicate count None) m None)
@@ -550,7 +560,7 @@ module _ (mine : List ℕ → Bool) (g : ℕ) where
           }
 
   from_new : (steps : List Line) (told other : Told) → LinesApart mine g steps → Follows steps (filter (is_seen mine g) steps) new_host new_host told other
-  from_new steps told other apart = follows steps new_host new_host told other apart (none_hold (FitsAt the_rules mine g) 64 (λ m. tt)) (record { guest = refl; places = refl; streams = record { inputs = refl; outputs = refl } })
+  from_new steps told other apart = follows steps new_host new_host told other apart (none_hold (FitsAt the_rules mine g) 64 (λ m. tt)) (record { guest = refl; places = refl; streams = record { inputs = refl; outputs = refl }; clocks = refl })
 
 -- ---- the names that a guest's lines name
 or_left : (a b : Bool) → a ≡ true → (a || b) ≡ true
@@ -606,6 +616,7 @@ module _ (mine : List ℕ → Bool) (g : ℕ) where
   unseen_names (line.Call k it) name e = refl
   unseen_names (line.Worker it) name e = refl
   unseen_names (line.Turn it) name e = refl
+  unseen_names (line.Clock it) name e = refl
 
   names_seen : (steps : List Line) (name : List ℕ) → names_by (is_guest g) (filter (is_seen mine g) steps) name ≡ names_by (is_guest g) steps name
   names_seen [] name = refl

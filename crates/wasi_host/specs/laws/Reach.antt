@@ -27,7 +27,7 @@ use Rattle.wasi_host.specs.InStreams.{input_without}
 use Rattle.wasi_host.specs.OutStreams.{output_without}
 use Rattle.wasi_host.specs.Deeds.{Done, entry_at, dropped}
 use Rattle.wasi_host.specs.Calls.{Owner, Settings}
-use Rattle.wasi_host.specs.Host.{Named, Guest, Streams, Host, Rules, Answered, put_back, input_at, put_input, output_at, put_output, settled, leave_input, leave_output, leave_entry, leave_all, guest_of, answer_at, answer_to, answer_by, answer_in, answer, called_in}
+use Rattle.wasi_host.specs.Host.{Named, Guest, Streams, Host, CallRules, Answered, put_back, input_at, put_input, output_at, put_output, settled, leave_input, leave_output, leave_entry, leave_all, guest_of, answer_at, answer_to, answer_by, answer_in, answer, called_in}
 use Rattle.wasi_host.specs.View.{input_names, output_names}
 use Rattle.wasi_host.specs.Promises.{entry_of, is_on_input, is_on_output, is_on_shared, reaches_input, reaches_output, InReach, PutsBack}
 use Rattle.wasi_host.specs.laws.Shown.{get_set}
@@ -79,7 +79,7 @@ record Leaves (o : Option Entry) (settings : Settings) (done : Answered) (s : Sh
   shared : is_on_shared o ≡ false → done.shared ≡ s
   settings_are : done.guest.settings ≡ settings
 
-at_leaves : (rules : Rules) (it : EntryCall) (at : Owner) (o : Option Entry) (guest : Guest) (s : Shared) (streams : Streams) → Leaves o guest.settings (answer_at rules it at o guest s streams) s streams
+at_leaves : (rules : CallRules) (it : EntryCall) (at : Owner) (o : Option Entry) (guest : Guest) (s : Shared) (streams : Streams) → Leaves o guest.settings (answer_at rules it at o guest s streams) s streams
 at_leaves rules it at None guest s streams = record { inputs = λ name apart. refl; outputs = λ name apart. refl; shared = λ apart. refl; settings_are = refl }
 at_leaves rules it at (Some (entry.Shared e)) guest s streams = record { inputs = λ name apart. refl; outputs = λ name apart. refl; shared = λ apart. absurd (true≢false apart); settings_are = refl }
 at_leaves rules it at (Some (entry.Stream standard.Input e)) guest s streams =
@@ -91,10 +91,12 @@ at_leaves rules it at (Some (entry.Stream standard.Output e)) guest s streams =
 at_leaves rules it at (Some (entry.Stream standard.Error e)) guest s streams =
     let left = (rules.sent it standard.Error at e (output_at guest.settings.stderr streams)).left in
     record { inputs = λ name apart. ap (lookup (bytes_eq name)) (output_apart guest.settings.stderr left streams); outputs = λ name apart. output_still guest.settings.stderr left streams name apart; shared = λ apart. refl; settings_are = refl }
+at_leaves rules it at (Some (entry.Own e)) guest s streams = record { inputs = λ name apart. refl; outputs = λ name apart. refl; shared = λ apart. refl; settings_are = refl }
 
 entry_leaves : (done : Done) (who : Leaver) (o : Option Entry) (guest : Guest) (s : Shared) (streams : Streams) → Leaves o guest.settings (settled guest done s (leave_entry who o guest.settings streams)) s streams
 entry_leaves done who None guest s streams = record { inputs = λ name apart. refl; outputs = λ name apart. refl; shared = λ apart. refl; settings_are = refl }
 entry_leaves done who (Some (entry.Shared e)) guest s streams = record { inputs = λ name apart. refl; outputs = λ name apart. refl; shared = λ apart. refl; settings_are = refl }
+entry_leaves done who (Some (entry.Own e)) guest s streams = record { inputs = λ name apart. refl; outputs = λ name apart. refl; shared = λ apart. refl; settings_are = refl }
 entry_leaves done who (Some (entry.Stream standard.Input e)) guest s streams = record {
   inputs = λ name apart. left_input who guest.settings.input streams name apart;
   outputs = λ name apart. ap (lookup (bytes_eq name)) (input_apart guest.settings.input _ streams);
@@ -114,7 +116,7 @@ entry_leaves done who (Some (entry.Stream standard.Error e)) guest s streams = r
   settings_are = refl;
 }
 
-to_leaves : (rules : Rules) (c : Call) (g : ℕ) (guest : Guest) (s : Shared) (streams : Streams) → Leaves (entry_of c guest) guest.settings (answer_to rules c g guest s streams) s streams
+to_leaves : (rules : CallRules) (c : Call) (g : ℕ) (guest : Guest) (s : Shared) (streams : Streams) → Leaves (entry_of c guest) guest.settings (answer_to rules c g guest s streams) s streams
 to_leaves rules (call.On n it) g guest s streams = at_leaves rules it (record { guest = g; number = n }) (entry_at guest.own n) guest s streams
 to_leaves rules (call.Open it how) g guest s streams = record { inputs = λ name apart. refl; outputs = λ name apart. refl; shared = λ apart. refl; settings_are = refl }
 to_leaves rules (call.Drop n) g guest s streams = entry_leaves (dropped n guest.own) (leaver.Entry (record { guest = g; number = n })) (entry_at guest.own n) guest s streams
@@ -144,7 +146,7 @@ record LeavesBy (o : Option Entry) (settings : Settings) (done : Answered) (s : 
   shared : is_on_shared o ≡ false → done.shared ≡ s
   settings_are : done.guest.settings ≡ settings
 
-by_leaves : (rules : Rules) (b : Bool) (c : Call) (g : ℕ) (guest : Guest) (s : Shared) (streams : Streams) → LeavesBy (entry_of c guest) guest.settings (answer_by b rules c g guest s streams) s streams
+by_leaves : (rules : CallRules) (b : Bool) (c : Call) (g : ℕ) (guest : Guest) (s : Shared) (streams : Streams) → LeavesBy (entry_of c guest) guest.settings (answer_by b rules c g guest s streams) s streams
 by_leaves rules true c g guest s streams = record { inputs = λ name apart. refl; outputs = λ name apart. refl; shared = λ apart. refl; settings_are = refl }
 by_leaves rules false c g guest s streams =
     let done = answer_to rules c g guest s streams in
@@ -158,7 +160,7 @@ by_leaves rules false c g guest s streams =
       settings_are = leaves.settings_are;
     }
 
-pub calls_stay : (rules : Rules) (c : Call) (g : ℕ) (host : Host) (guest : Guest) → guest_of host g ≡ Some guest → InReach (answer rules c g host).reply (entry_of c guest) host (called_in rules c g host) g guest
+pub calls_stay : (rules : CallRules) (c : Call) (g : ℕ) (host : Host) (guest : Guest) → guest_of host g ≡ Some guest → InReach (answer rules c g host).reply (entry_of c guest) host (called_in rules c g host) g guest
 calls_stay rules c g host guest there =
     let below = within host.guests g (ap is_some there) in
     let done = answer rules c g host in
@@ -169,6 +171,7 @@ calls_stay rules c g host guest there =
           ∙ ap (λ o. Some (answer_in rules c g o host.shared host.streams).guest.settings) there ∙ ap Some leaves.settings_are;
       inputs = λ name apart. ap (λ o. lookup (bytes_eq name) (answer_in rules c g o host.shared host.streams).streams.inputs) there ∙ leaves.inputs name (ap (λ o. reaches_input (answer_in rules c g o host.shared host.streams).reply (entry_of c guest) guest.settings name) (sym there) ∙ apart);
       outputs = λ name apart. ap (λ o. lookup (bytes_eq name) (answer_in rules c g o host.shared host.streams).streams.outputs) there ∙ leaves.outputs name (ap (λ o. reaches_output (answer_in rules c g o host.shared host.streams).reply (entry_of c guest) guest.settings name) (sym there) ∙ apart);
+      clocks = refl;
       shared = λ apart. ap (λ o. (answer_in rules c g o host.shared host.streams).shared) there ∙ leaves.shared apart;
     }
 

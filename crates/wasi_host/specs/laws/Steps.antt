@@ -40,10 +40,11 @@ use Rattle.wasi_host.specs.declared.stream.InStream.{InStream}
 use Rattle.wasi_reply.specs.Reply.{ends}
 use Rattle.wasi_host.specs.declared.stream.OutStream.{OutStream}
 use Rattle.wasi_host.specs.Deeds.{entry_at}
+use Rattle.wasi_host.specs.Clocks.{Clocks}
 use Rattle.wasi_host.specs.Calls.{Owner, Settings, asked}
 use Rattle.wasi_host.specs.declared.leaver.Leaver.{Leaver}
 use Rattle.wasi_host.specs.declared.leaver.Leaver.TheVariants as leaver
-use Rattle.wasi_host.specs.Host.{Named, the_rules, Rules, Guest, Streams, configured, put_input, put_output, new_input, new_output, Host, IsStep, new_guest, answer_at, answer_to, answer_by, answer_in, answer, guest_of, was_called_in, names_in, reads_ahead_in, writes_behind_in, leave_input, leave_output, leave_entry, leave_all, names_of, after_task, host_after, step_reply, step_host, step_told, delivery_told, after_delivery, given_for, told_for, new_host}
+use Rattle.wasi_host.specs.Host.{Named, the_calls, the_rules, CallRules, Rules, Guest, Streams, configured, put_input, put_output, new_input, new_output, Host, IsStep, new_guest, answer_at, answer_to, answer_by, answer_in, answer, guest_of, was_called_in, names_in, reads_ahead_in, writes_behind_in, leave_input, leave_output, leave_entry, leave_all, names_of, after_task, host_after, step_reply, step_host, step_told, delivery_told, after_delivery, given_for, told_for, new_host}
 use Rattle.wasi_host.specs.laws.Shown.{cond_same, get_set}
 use Rattle.wasi_host.specs.laws.Tasks.{call_kinds, turn_kinds, call_settings, NamesStand, GuestStands, GuestsStand, same_settings, stand_after, new_stands, configured_stands, readers_more, writers_more}
 
@@ -62,7 +63,7 @@ told_step before after old new (line.Worker turn.Deliver) answer u h e =
     let told = deliver_told old.shared.captured before after (given_now new.shared) u h.told_is e in
     record {
       reply_is = h.reply_is ∙ ap reply.Worked (told.1 old.shared).0;
-      host_is = h.host_is ∙ ap (λ (shared : Shared). record { shared = shared; guests = old.guests; streams = old.streams }) (told.1 old.shared).1;
+      host_is = h.host_is ∙ ap (λ (shared : Shared). record { shared = shared; guests = old.guests; streams = old.streams; clocks = old.clocks }) (told.1 old.shared).1;
       told_is = told.0;
     }
 told_step before after old new other answer u h e = record { reply_is = h.reply_is; host_is = h.host_is; told_is = h.told_is ∙ e }
@@ -146,6 +147,7 @@ trans_names three two one b a = record { inputs = b.inputs ∙ a.inputs; outputs
 entry_names : (who : Leaver) (o : Option Entry) (settings : Settings) (streams : Streams) → SameNames (leave_entry who o settings streams) streams
 entry_names who None settings streams = record { inputs = refl; outputs = refl }
 entry_names who (Some (entry.Shared e)) settings streams = record { inputs = refl; outputs = refl }
+entry_names who (Some (entry.Own e)) settings streams = record { inputs = refl; outputs = refl }
 entry_names who (Some (entry.Stream standard.Input e)) settings streams = put_input_names settings.input _ streams
 entry_names who (Some (entry.Stream standard.Output e)) settings streams = put_output_names settings.stdout _ streams
 entry_names who (Some (entry.Stream standard.Error e)) settings streams = put_output_names settings.stderr _ streams
@@ -157,44 +159,46 @@ left_names true who settings streams =
     trans_names (leave_output who settings.stderr two) two streams (put_output_names settings.stderr _ two) (trans_names two one streams (put_output_names settings.stdout _ one) (put_input_names settings.input _ streams))
 left_names false who settings streams = record { inputs = refl; outputs = refl }
 
-at_names : (rules : Rules) (it : EntryCall) (at : Owner) (o : Option Entry) (guest : Guest) (s : Shared) (streams : Streams) → SameNames (answer_at rules it at o guest s streams).streams streams
+at_names : (rules : CallRules) (it : EntryCall) (at : Owner) (o : Option Entry) (guest : Guest) (s : Shared) (streams : Streams) → SameNames (answer_at rules it at o guest s streams).streams streams
 at_names rules it at None guest s streams = record { inputs = refl; outputs = refl }
 at_names rules it at (Some (entry.Shared e)) guest s streams = record { inputs = refl; outputs = refl }
 at_names rules it at (Some (entry.Stream standard.Input e)) guest s streams = put_input_names guest.settings.input _ streams
 at_names rules it at (Some (entry.Stream standard.Output e)) guest s streams = put_output_names guest.settings.stdout _ streams
 at_names rules it at (Some (entry.Stream standard.Error e)) guest s streams = put_output_names guest.settings.stderr _ streams
+at_names rules it at (Some (entry.Own e)) guest s streams = record { inputs = refl; outputs = refl }
 
-to_names : (rules : Rules) (c : Call) (g : ℕ) (guest : Guest) (s : Shared) (streams : Streams) → SameNames (answer_to rules c g guest s streams).streams streams
+to_names : (rules : CallRules) (c : Call) (g : ℕ) (guest : Guest) (s : Shared) (streams : Streams) → SameNames (answer_to rules c g guest s streams).streams streams
 to_names rules (call.On n it) g guest s streams = at_names rules it (record { guest = g; number = n }) (entry_at guest.own n) guest s streams
 to_names rules (call.Drop n) g guest s streams = entry_names (leaver.Entry (record { guest = g; number = n })) (entry_at guest.own n) guest.settings streams
 to_names rules other g guest s streams = record { inputs = refl; outputs = refl }
 
-by_names : (rules : Rules) (b : Bool) (c : Call) (g : ℕ) (guest : Guest) (s : Shared) (streams : Streams) → SameNames (answer_by b rules c g guest s streams).streams streams
+by_names : (rules : CallRules) (b : Bool) (c : Call) (g : ℕ) (guest : Guest) (s : Shared) (streams : Streams) → SameNames (answer_by b rules c g guest s streams).streams streams
 by_names rules true c g guest s streams = record { inputs = refl; outputs = refl }
 by_names rules false c g guest s streams = let done = answer_to rules c g guest s streams in trans_names _ done.streams streams (left_names (ends done.reply) (leaver.Guest g) guest.settings done.streams) (to_names rules c g guest s streams)
 
-pub answered_names : (rules : Rules) (c : Call) (g : ℕ) (o : Option Guest) (s : Shared) (streams : Streams) → SameNames (answer_in rules c g o s streams).streams streams
+pub answered_names : (rules : CallRules) (c : Call) (g : ℕ) (o : Option Guest) (s : Shared) (streams : Streams) → SameNames (answer_in rules c g o s streams).streams streams
 answered_names rules c g None s streams = record { inputs = refl; outputs = refl }
 answered_names rules c g (Some guest) s streams = by_names rules guest.ended c g guest s streams
 
-at_called : (rules : Rules) (it : EntryCall) (at : Owner) (o : Option Entry) (guest : Guest) (s : Shared) (streams : Streams) → (answer_at rules it at o guest s streams).guest.was_called ≡ true
+at_called : (rules : CallRules) (it : EntryCall) (at : Owner) (o : Option Entry) (guest : Guest) (s : Shared) (streams : Streams) → (answer_at rules it at o guest s streams).guest.was_called ≡ true
 at_called rules it at None guest s streams = refl
 at_called rules it at (Some (entry.Shared e)) guest s streams = refl
 at_called rules it at (Some (entry.Stream standard.Input e)) guest s streams = refl
 at_called rules it at (Some (entry.Stream standard.Output e)) guest s streams = refl
 at_called rules it at (Some (entry.Stream standard.Error e)) guest s streams = refl
+at_called rules it at (Some (entry.Own e)) guest s streams = refl
 
-to_called : (rules : Rules) (c : Call) (g : ℕ) (guest : Guest) (s : Shared) (streams : Streams) → (answer_to rules c g guest s streams).guest.was_called ≡ true
+to_called : (rules : CallRules) (c : Call) (g : ℕ) (guest : Guest) (s : Shared) (streams : Streams) → (answer_to rules c g guest s streams).guest.was_called ≡ true
 to_called rules (call.On n it) g guest s streams = at_called rules it (record { guest = g; number = n }) (entry_at guest.own n) guest s streams
 to_called rules (call.Open it how) g guest s streams = refl
 to_called rules (call.Drop n) g guest s streams = refl
 to_called rules (call.Own it) g guest s streams = refl
 
-by_called : (rules : Rules) (b : Bool) (c : Call) (g : ℕ) (guest : Guest) (s : Shared) (streams : Streams) → (answer_by b rules c g guest s streams).guest.was_called ≡ true
+by_called : (rules : CallRules) (b : Bool) (c : Call) (g : ℕ) (guest : Guest) (s : Shared) (streams : Streams) → (answer_by b rules c g guest s streams).guest.was_called ≡ true
 by_called rules true c g guest s streams = refl
 by_called rules false c g guest s streams = to_called rules c g guest s streams
 
-called_now : (rules : Rules) (c : Call) (g : ℕ) (o : Option Guest) (s : Shared) (streams : Streams) → is_some o ≡ true → (answer_in rules c g o s streams).guest.was_called ≡ true
+called_now : (rules : CallRules) (c : Call) (g : ℕ) (o : Option Guest) (s : Shared) (streams : Streams) → is_some o ≡ true → (answer_in rules c g o s streams).guest.was_called ≡ true
 called_now rules c g None s streams h = absurd (cc)
 called_now rules c g (Some guest) s streams h = by_called rules guest.ended c g guest s streams
 
@@ -233,18 +237,19 @@ names_step (line.Configure n it) old g len guests h =
     }
 names_step (line.Call n c) old g len guests h =
     let lt : n < length old.guests = within old.guests n h in
-    let guest : Guest = (answer the_rules c n old).guest in
-    let names = answered_names the_rules c n (guest_of old n) old.shared old.streams in
-    let kinds = call_kinds c n (guest_of old n) old.shared old.streams in
+    let guest : Guest = (answer (the_calls old.clocks) c n old).guest in
+    let names = answered_names (the_calls old.clocks) c n (guest_of old n) old.shared old.streams in
+    let kinds = call_kinds old.clocks c n (guest_of old n) old.shared old.streams in
     λ i. record {
       is_guest = λ m. told_same is_some old.guests n m (Some guest) lt h i;
-      was_called = λ m. (told_at was_called_in old.guests n m (Some guest) lt ∙ ap (λ b. cond (nat_eq m n) b (was_called_in (get_or old.guests m None))) (called_now the_rules c n (guest_of old n) old.shared old.streams h)) i;
+      was_called = λ m. (told_at was_called_in old.guests n m (Some guest) lt ∙ ap (λ b. cond (nat_eq m n) b (was_called_in (get_or old.guests m None))) (called_now (the_calls old.clocks) c n (guest_of old n) old.shared old.streams h)) i;
       inputs = names.inputs i;
       outputs = names.outputs i;
       reads_ahead = λ name. kinds.reads name i;
       writes_behind = λ name. kinds.writes name i;
     }
 names_step (line.Worker it) old g len guests h = refl
+names_step (line.Clock it) old g len guests h = refl
 names_step (line.Turn it) old g len guests h =
     let names = task_names the_rules it old.streams in
     let kinds = turn_kinds it old.streams in
@@ -263,7 +268,7 @@ put_stands names xs n x lt all new m = subst (GuestStands names) (sym (get_set x
     by true = new
     by false = all m
 
-called_stands : (names : Names) (rules : Rules) (c : Call) (g : ℕ) (o : Option Guest) (s : Shared) (streams : Streams) → is_some o ≡ true → GuestStands names o → NamesStand names (answer_in rules c g o s streams).guest
+called_stands : (names : Names) (rules : CallRules) (c : Call) (g : ℕ) (o : Option Guest) (s : Shared) (streams : Streams) → is_some o ≡ true → GuestStands names o → NamesStand names (answer_in rules c g o s streams).guest
 called_stands names rules c g None s streams there stand = absurd (cc)
 called_stands names rules c g (Some guest) s streams there stand = same_settings names (answer_in rules c g (Some guest) s streams).guest guest (call_settings rules guest.ended c g guest s streams) stand
 
@@ -280,7 +285,7 @@ guests_after (line.Configure n it) old g len guests h m =
 guests_after (line.Call n c) old g len guests h m =
     let names = names_of old in
     let there : is_some (guest_of old n) ≡ true = h in
-    put_stands (names_after names (line.Call n c)) old.guests n (Some (answer the_rules c n old).guest) (within old.guests n there) (λ m. stand_after names (line.Call n c) (guest_of old m) (guests m)) (called_stands (names_after names (line.Call n c)) the_rules c n (guest_of old n) old.shared old.streams there (stand_after names (line.Call n c) (guest_of old n) (guests n))) m
+    put_stands (names_after names (line.Call n c)) old.guests n (Some (answer (the_calls old.clocks) c n old).guest) (within old.guests n there) (λ m. stand_after names (line.Call n c) (guest_of old m) (guests m)) (called_stands (names_after names (line.Call n c)) (the_calls old.clocks) c n (guest_of old n) old.shared old.streams there (stand_after names (line.Call n c) (guest_of old n) (guests n))) m
 guests_after step old g len guests h m = stand_after (names_of old) step (guest_of old m) (guests m)
 
 pub guests_step : (step : Line) (old : Host) (g : Given) → length old.guests ≡ 64 → GuestsStand old → may_stand (names_of old) step ≡ true → GuestsStand (host_after step old g)
@@ -307,7 +312,7 @@ guests_new = none_stand (names_of new_host) 64
 pub places_step : (step : Line) (old : Host) (g : Given) → length (host_after step old g).guests ≡ length old.guests
 places_step (line.Guest n reads) old g = length-set old.guests n (Some (new_guest reads))
 places_step (line.Configure n it) old g = length-set old.guests n (option_map (configured it) (guest_of old n))
-places_step (line.Call n c) old g = length-set old.guests n (Some (answer the_rules c n old).guest)
+places_step (line.Call n c) old g = length-set old.guests n (Some (answer (the_calls old.clocks) c n old).guest)
 places_step other old g = refl
 
 -- ---- no call makes a delivery
@@ -336,24 +341,25 @@ asked_count other at on.Reader s = refl
 asked_count other at (on.Polled wait) s = refl
 asked_count other at (on.Pollable wait) s = refl
 
-at_count : (it : EntryCall) (at : Owner) (o : Option Entry) (guest : Guest) (s : Shared) (streams : Streams) → (answer_at the_rules it at o guest s streams).shared.deliveries ≡ s.deliveries
-at_count it at None guest s streams = refl
-at_count it at (Some (entry.Shared e)) guest s streams = asked_count it at e s
-at_count it at (Some (entry.Stream standard.Input e)) guest s streams = refl
-at_count it at (Some (entry.Stream standard.Output e)) guest s streams = refl
-at_count it at (Some (entry.Stream standard.Error e)) guest s streams = refl
+at_count : (clocks : Clocks) (it : EntryCall) (at : Owner) (o : Option Entry) (guest : Guest) (s : Shared) (streams : Streams) → (answer_at (the_calls clocks) it at o guest s streams).shared.deliveries ≡ s.deliveries
+at_count clocks it at None guest s streams = refl
+at_count clocks it at (Some (entry.Shared e)) guest s streams = asked_count it at e s
+at_count clocks it at (Some (entry.Stream standard.Input e)) guest s streams = refl
+at_count clocks it at (Some (entry.Stream standard.Output e)) guest s streams = refl
+at_count clocks it at (Some (entry.Stream standard.Error e)) guest s streams = refl
+at_count clocks it at (Some (entry.Own e)) guest s streams = refl
 
-to_count : (c : Call) (g : ℕ) (guest : Guest) (s : Shared) (streams : Streams) → (answer_to the_rules c g guest s streams).shared.deliveries ≡ s.deliveries
-to_count (call.On n it) g guest s streams = at_count it (record { guest = g; number = n }) (entry_at guest.own n) guest s streams
-to_count other g guest s streams = refl
+to_count : (clocks : Clocks) (c : Call) (g : ℕ) (guest : Guest) (s : Shared) (streams : Streams) → (answer_to (the_calls clocks) c g guest s streams).shared.deliveries ≡ s.deliveries
+to_count clocks (call.On n it) g guest s streams = at_count clocks it (record { guest = g; number = n }) (entry_at guest.own n) guest s streams
+to_count clocks other g guest s streams = refl
 
-by_count : (b : Bool) (c : Call) (g : ℕ) (guest : Guest) (s : Shared) (streams : Streams) → (answer_by b the_rules c g guest s streams).shared.deliveries ≡ s.deliveries
-by_count true c g guest s streams = refl
-by_count false c g guest s streams = to_count c g guest s streams
+by_count : (clocks : Clocks) (b : Bool) (c : Call) (g : ℕ) (guest : Guest) (s : Shared) (streams : Streams) → (answer_by b (the_calls clocks) c g guest s streams).shared.deliveries ≡ s.deliveries
+by_count clocks true c g guest s streams = refl
+by_count clocks false c g guest s streams = to_count clocks c g guest s streams
 
-called_count : (c : Call) (g : ℕ) (o : Option Guest) (s : Shared) (streams : Streams) → (answer_in the_rules c g o s streams).shared.deliveries ≡ s.deliveries
-called_count c g None s streams = refl
-called_count c g (Some guest) s streams = by_count guest.ended c g guest s streams
+called_count : (clocks : Clocks) (c : Call) (g : ℕ) (o : Option Guest) (s : Shared) (streams : Streams) → (answer_in (the_calls clocks) c g o s streams).shared.deliveries ≡ s.deliveries
+called_count clocks c g None s streams = refl
+called_count clocks c g (Some guest) s streams = by_count clocks guest.ended c g guest s streams
 
 captured_count : (c : Option ℕ) (s : Shared) → (captured_by c s).deliveries ≡ s.deliveries
 captured_count None s = refl
@@ -364,7 +370,7 @@ delivery_count None s g = omega arith
 delivery_count (Some n) s g = omega arith
 
 pub count_step : (step : Line) (old : Host) (g : Given) → (host_after step old g).shared.deliveries ≤ old.shared.deliveries + 1
-count_step (line.Call n c) old g = omega (arith, called_count c n (guest_of old n) old.shared old.streams)
+count_step (line.Call n c) old g = omega (arith, called_count old.clocks c n (guest_of old n) old.shared old.streams)
 count_step (line.Worker turn.Capture) old g = omega (arith, captured_count (capture_of old.shared) old.shared)
 count_step (line.Worker turn.Deliver) old g = delivery_count old.shared.captured old.shared g
 count_step other old g = omega arith

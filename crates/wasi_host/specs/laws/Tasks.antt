@@ -40,12 +40,13 @@ use Rattle.wasi_host.specs.InStreams.{after_input_read, after_input_poll_read, a
 use Rattle.wasi_host.specs.OutStreams.{after_output_check_write, after_output_write, after_output_flush, after_output_poll_write, after_output_poll_flush, after_output_block, output_without}
 use Rattle.wasi_host.specs.Tasks.{input_turned, output_turned}
 use Rattle.wasi_host.specs.Deeds.{entry_at}
+use Rattle.wasi_host.specs.Clocks.{Clocks}
 use Rattle.wasi_host.specs.Calls.{Owner, Settings, called, sent, polled_read, polled_write, polled_flush}
 use Rattle.wasi_cli.specs.declared.stdout_handle.StdoutHandle.{StdoutHandle}
 use Rattle.wasi_host.specs.declared.leaver.Leaver.{Leaver}
 use Rattle.wasi_host.specs.declared.leaver.Leaver.TheVariants as leaver
 use Rattle.wasi_reply.specs.Reply.{ends}
-use Rattle.wasi_host.specs.Host.{Named, Guest, Streams, Host, Rules, the_rules, new_guest, configured, new_input, new_output, taken_out, put_back, input_at, put_input, output_at, put_output, answer_at, answer_to, answer_by, answer_in, after_task, guest_of, is_reader, is_writer, reads_ahead_in, writes_behind_in, leave_input, leave_output, leave_entry, leave_all, names_in, names_of}
+use Rattle.wasi_host.specs.Host.{Named, Guest, Streams, Host, CallRules, the_calls, the_rules, new_guest, configured, new_input, new_output, taken_out, put_back, input_at, put_input, output_at, put_output, answer_at, answer_to, answer_by, answer_in, after_task, guest_of, is_reader, is_writer, reads_ahead_in, writes_behind_in, leave_input, leave_output, leave_entry, leave_all, names_in, names_of}
 
 -- ---- a call or a turn leaves a stream of its kind
 read_kind : (size : ℕ) (s : InStream) → is_reader (Some (after_input_read s size)) ≡ is_reader (Some s)
@@ -220,6 +221,7 @@ leave_output_kinds who to streams = output_kinds to (output_without who) (λ s. 
 entry_kinds : (who : Leaver) (o : Option Entry) (settings : Settings) (streams : Streams) → SameKinds (leave_entry who o settings streams) streams
 entry_kinds who None settings streams = record { reads = λ name. refl; writes = λ name. refl }
 entry_kinds who (Some (entry.Shared e)) settings streams = record { reads = λ name. refl; writes = λ name. refl }
+entry_kinds who (Some (entry.Own e)) settings streams = record { reads = λ name. refl; writes = λ name. refl }
 entry_kinds who (Some (entry.Stream standard.Input e)) settings streams = leave_input_kinds who settings.input streams
 entry_kinds who (Some (entry.Stream standard.Output e)) settings streams = leave_output_kinds who settings.stdout streams
 entry_kinds who (Some (entry.Stream standard.Error e)) settings streams = leave_output_kinds who settings.stderr streams
@@ -231,45 +233,47 @@ left_kinds true who settings streams =
     trans_kinds (leave_output who settings.stderr two) two streams (leave_output_kinds who settings.stderr two) (trans_kinds two one streams (leave_output_kinds who settings.stdout one) (leave_input_kinds who settings.input streams))
 left_kinds false who settings streams = record { reads = λ name. refl; writes = λ name. refl }
 
-at_kinds : (it : EntryCall) (at : Owner) (o : Option Entry) (guest : Guest) (s : Shared) (streams : Streams) → SameKinds (answer_at the_rules it at o guest s streams).streams streams
-at_kinds it at None guest s streams = record { reads = λ name. refl; writes = λ name. refl }
-at_kinds it at (Some (entry.Shared e)) guest s streams = record { reads = λ name. refl; writes = λ name. refl }
-at_kinds it at (Some (entry.Stream standard.Input e)) guest s streams = input_kinds guest.settings.input (λ s. (called it at e s).left) (called_kind it at e) streams
-at_kinds it at (Some (entry.Stream standard.Output e)) guest s streams = output_kinds guest.settings.stdout (λ s. (sent it standard.Output at e s).left) (sent_kind it standard.Output at e) streams
-at_kinds it at (Some (entry.Stream standard.Error e)) guest s streams = output_kinds guest.settings.stderr (λ s. (sent it standard.Error at e s).left) (sent_kind it standard.Error at e) streams
+at_kinds : (clocks : Clocks) (it : EntryCall) (at : Owner) (o : Option Entry) (guest : Guest) (s : Shared) (streams : Streams) → SameKinds (answer_at (the_calls clocks) it at o guest s streams).streams streams
+at_kinds clocks it at None guest s streams = record { reads = λ name. refl; writes = λ name. refl }
+at_kinds clocks it at (Some (entry.Shared e)) guest s streams = record { reads = λ name. refl; writes = λ name. refl }
+at_kinds clocks it at (Some (entry.Stream standard.Input e)) guest s streams = input_kinds guest.settings.input (λ s. (called it at e s).left) (called_kind it at e) streams
+at_kinds clocks it at (Some (entry.Stream standard.Output e)) guest s streams = output_kinds guest.settings.stdout (λ s. (sent it standard.Output at e s).left) (sent_kind it standard.Output at e) streams
+at_kinds clocks it at (Some (entry.Stream standard.Error e)) guest s streams = output_kinds guest.settings.stderr (λ s. (sent it standard.Error at e s).left) (sent_kind it standard.Error at e) streams
+at_kinds clocks it at (Some (entry.Own e)) guest s streams = record { reads = λ name. refl; writes = λ name. refl }
 
-to_kinds : (c : Call) (g : ℕ) (guest : Guest) (s : Shared) (streams : Streams) → SameKinds (answer_to the_rules c g guest s streams).streams streams
-to_kinds (call.On n it) g guest s streams = at_kinds it (record { guest = g; number = n }) (entry_at guest.own n) guest s streams
-to_kinds (call.Drop n) g guest s streams = entry_kinds (leaver.Entry (record { guest = g; number = n })) (entry_at guest.own n) guest.settings streams
-to_kinds other g guest s streams = record { reads = λ name. refl; writes = λ name. refl }
+to_kinds : (clocks : Clocks) (c : Call) (g : ℕ) (guest : Guest) (s : Shared) (streams : Streams) → SameKinds (answer_to (the_calls clocks) c g guest s streams).streams streams
+to_kinds clocks (call.On n it) g guest s streams = at_kinds clocks it (record { guest = g; number = n }) (entry_at guest.own n) guest s streams
+to_kinds clocks (call.Drop n) g guest s streams = entry_kinds (leaver.Entry (record { guest = g; number = n })) (entry_at guest.own n) guest.settings streams
+to_kinds clocks other g guest s streams = record { reads = λ name. refl; writes = λ name. refl }
 
-by_kinds : (b : Bool) (c : Call) (g : ℕ) (guest : Guest) (s : Shared) (streams : Streams) → SameKinds (answer_by b the_rules c g guest s streams).streams streams
-by_kinds true c g guest s streams = record { reads = λ name. refl; writes = λ name. refl }
-by_kinds false c g guest s streams = let done = answer_to the_rules c g guest s streams in trans_kinds _ done.streams streams (left_kinds (ends done.reply) (leaver.Guest g) guest.settings done.streams) (to_kinds c g guest s streams)
+by_kinds : (clocks : Clocks) (b : Bool) (c : Call) (g : ℕ) (guest : Guest) (s : Shared) (streams : Streams) → SameKinds (answer_by b (the_calls clocks) c g guest s streams).streams streams
+by_kinds clocks true c g guest s streams = record { reads = λ name. refl; writes = λ name. refl }
+by_kinds clocks false c g guest s streams = let done = answer_to (the_calls clocks) c g guest s streams in trans_kinds _ done.streams streams (left_kinds (ends done.reply) (leaver.Guest g) guest.settings done.streams) (to_kinds clocks c g guest s streams)
 
-pub call_kinds : (c : Call) (g : ℕ) (o : Option Guest) (s : Shared) (streams : Streams) → SameKinds (answer_in the_rules c g o s streams).streams streams
-call_kinds c g None s streams = record { reads = λ name. refl; writes = λ name. refl }
-call_kinds c g (Some guest) s streams = by_kinds guest.ended c g guest s streams
+pub call_kinds : (clocks : Clocks) (c : Call) (g : ℕ) (o : Option Guest) (s : Shared) (streams : Streams) → SameKinds (answer_in (the_calls clocks) c g o s streams).streams streams
+call_kinds clocks c g None s streams = record { reads = λ name. refl; writes = λ name. refl }
+call_kinds clocks c g (Some guest) s streams = by_kinds clocks guest.ended c g guest s streams
 
 pub turn_kinds : (it : StreamTask) (streams : Streams) → SameKinds (after_task the_rules it streams) streams
 turn_kinds (task.Reader name) streams = input_kinds (input.Named name) (λ s. (input_turned s).left) read_ahead_kind streams
 turn_kinds (task.Writer name) streams = output_kinds (output.Named name) (λ s. (output_turned s).left) write_behind_kind streams
 
 -- ---- a call leaves its guest's settings, whatever the rules are
-at_settings : (rules : Rules) (it : EntryCall) (at : Owner) (o : Option Entry) (guest : Guest) (s : Shared) (streams : Streams) → (answer_at rules it at o guest s streams).guest.settings ≡ guest.settings
+at_settings : (rules : CallRules) (it : EntryCall) (at : Owner) (o : Option Entry) (guest : Guest) (s : Shared) (streams : Streams) → (answer_at rules it at o guest s streams).guest.settings ≡ guest.settings
 at_settings rules it at None guest s streams = refl
 at_settings rules it at (Some (entry.Shared e)) guest s streams = refl
 at_settings rules it at (Some (entry.Stream standard.Input e)) guest s streams = refl
 at_settings rules it at (Some (entry.Stream standard.Output e)) guest s streams = refl
 at_settings rules it at (Some (entry.Stream standard.Error e)) guest s streams = refl
+at_settings rules it at (Some (entry.Own e)) guest s streams = refl
 
-to_settings : (rules : Rules) (c : Call) (g : ℕ) (guest : Guest) (s : Shared) (streams : Streams) → (answer_to rules c g guest s streams).guest.settings ≡ guest.settings
+to_settings : (rules : CallRules) (c : Call) (g : ℕ) (guest : Guest) (s : Shared) (streams : Streams) → (answer_to rules c g guest s streams).guest.settings ≡ guest.settings
 to_settings rules (call.On n it) g guest s streams = at_settings rules it (record { guest = g; number = n }) (entry_at guest.own n) guest s streams
 to_settings rules (call.Open it how) g guest s streams = refl
 to_settings rules (call.Drop n) g guest s streams = refl
 to_settings rules (call.Own it) g guest s streams = refl
 
-pub call_settings : (rules : Rules) (b : Bool) (c : Call) (g : ℕ) (guest : Guest) (s : Shared) (streams : Streams) → (answer_by b rules c g guest s streams).guest.settings ≡ guest.settings
+pub call_settings : (rules : CallRules) (b : Bool) (c : Call) (g : ℕ) (guest : Guest) (s : Shared) (streams : Streams) → (answer_by b rules c g guest s streams).guest.settings ≡ guest.settings
 call_settings rules true c g guest s streams = refl
 call_settings rules false c g guest s streams = to_settings rules c g guest s streams
 

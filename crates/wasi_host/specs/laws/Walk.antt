@@ -34,8 +34,9 @@ use Rattle.wasi_host.specs.InStreams.{input_without}
 use Rattle.wasi_host.specs.OutStreams.{output_without}
 use Rattle.wasi_host.specs.Deeds.{Own, entry_at, act, apart, dropped}
 use Rattle.wasi_host.specs.Tasks.{output_turned}
+use Rattle.wasi_host.specs.Clocks.{Clocks}
 use Rattle.wasi_host.specs.Calls.{Owner, Settings, sent, called}
-use Rattle.wasi_host.specs.Host.{Named, the_rules, Guest, Streams, Host, new_output, taken_out, put_back, output_at, put_output, input_at, leave_input, leave_output, leave_entry, leave_all, answer_at, answer_to, answer_by, answer_in, guest_of, reply_to, host_after}
+use Rattle.wasi_host.specs.Host.{Named, the_calls, Guest, Streams, Host, new_output, taken_out, put_back, output_at, put_output, input_at, leave_input, leave_output, leave_entry, leave_all, answer_at, answer_to, answer_by, answer_in, guest_of, reply_to, host_after}
 use Rattle.wasi_host.specs.View.{output_names}
 use Rattle.wasi_host.specs.Promises.{entry_call_on, guest_call_on, step_call_on}
 use Rattle.wasi_host.specs.laws.Reach.{found_still, input_apart}
@@ -156,22 +157,23 @@ module _ (R : Change) (holds : HoldsOfEach R) (name : List ℕ) where
     to_sends output.Empty streams = kept (told_by it which at e own stream.Sink) streams.outputs
     to_sends output.Sink streams = kept (told_by it which at e own stream.Sink) streams.outputs
 
-  at_call : (it : EntryCall) (at : Owner) (o : Option Entry) (guest : Guest) (s : Shared) (streams : Streams) → entry_at guest.own at.number ≡ o → let done = answer_at the_rules it at o guest s streams in Holds (entry_call_on name it o guest.settings) done.reply streams.outputs done.streams.outputs
-  at_call it at None guest s streams held = kept _ streams.outputs
-  at_call it at (Some (entry.Shared e)) guest s streams held = kept _ streams.outputs
-  at_call it at (Some (entry.Stream standard.Input e)) guest s streams held =
-      let done = answer_at the_rules it at (Some (entry.Stream standard.Input e)) guest s streams in
+  at_call : (clocks : Clocks) (it : EntryCall) (at : Owner) (o : Option Entry) (guest : Guest) (s : Shared) (streams : Streams) → entry_at guest.own at.number ≡ o → let done = answer_at (the_calls clocks) it at o guest s streams in Holds (entry_call_on name it o guest.settings) done.reply streams.outputs done.streams.outputs
+  at_call clocks it at None guest s streams held = kept _ streams.outputs
+  at_call clocks it at (Some (entry.Shared e)) guest s streams held = kept _ streams.outputs
+  at_call clocks it at (Some (entry.Stream standard.Input e)) guest s streams held =
+      let done = answer_at (the_calls clocks) it at (Some (entry.Stream standard.Input e)) guest s streams in
       subst (λ outputs. Holds None done.reply streams.outputs outputs) (sym (input_apart guest.settings.input (called it at e (input_at guest.settings.input streams)).left streams)) (kept done.reply streams.outputs)
-  at_call it at (Some (entry.Stream standard.Output e)) guest s streams held = to_sends it standard.Output at e guest.own held guest.settings.stdout streams
-  at_call it at (Some (entry.Stream standard.Error e)) guest s streams held = to_sends it standard.Error at e guest.own held guest.settings.stderr streams
+  at_call clocks it at (Some (entry.Stream standard.Output e)) guest s streams held = to_sends it standard.Output at e guest.own held guest.settings.stdout streams
+  at_call clocks it at (Some (entry.Stream standard.Error e)) guest s streams held = to_sends it standard.Error at e guest.own held guest.settings.stderr streams
+  at_call clocks it at (Some (entry.Own e)) guest s streams held = kept _ streams.outputs
 
-  to_call : (c : Call) (g : ℕ) (guest : Guest) (s : Shared) (streams : Streams) → guest.ended ≡ false → let done = answer_to the_rules c g guest s streams in Holds (guest_call_on name c guest) done.reply streams.outputs done.streams.outputs
-  to_call (call.On n it) g guest s streams goes_on =
-      let done = answer_at the_rules it (record { guest = g; number = n }) (entry_at guest.own n) guest s streams in
-      subst (λ b. Holds (cond b None (entry_call_on name it (entry_at guest.own n) guest.settings)) done.reply streams.outputs done.streams.outputs) (sym goes_on) (at_call it (record { guest = g; number = n }) (entry_at guest.own n) guest s streams refl)
-  to_call (call.Open it how) g guest s streams goes_on = kept _ streams.outputs
-  to_call (call.Drop n) g guest s streams goes_on = leaves_entry None (dropped n guest.own).reply streams.outputs (leaver.Entry (record { guest = g; number = n })) (entry_at guest.own n) guest.settings streams (kept _ streams.outputs)
-  to_call (call.Own it) g guest s streams goes_on = kept _ streams.outputs
+  to_call : (clocks : Clocks) (c : Call) (g : ℕ) (guest : Guest) (s : Shared) (streams : Streams) → guest.ended ≡ false → let done = answer_to (the_calls clocks) c g guest s streams in Holds (guest_call_on name c guest) done.reply streams.outputs done.streams.outputs
+  to_call clocks (call.On n it) g guest s streams goes_on =
+      let done = answer_at (the_calls clocks) it (record { guest = g; number = n }) (entry_at guest.own n) guest s streams in
+      subst (λ b. Holds (cond b None (entry_call_on name it (entry_at guest.own n) guest.settings)) done.reply streams.outputs done.streams.outputs) (sym goes_on) (at_call clocks it (record { guest = g; number = n }) (entry_at guest.own n) guest s streams refl)
+  to_call clocks (call.Open it how) g guest s streams goes_on = kept _ streams.outputs
+  to_call clocks (call.Drop n) g guest s streams goes_on = leaves_entry None (dropped n guest.own).reply streams.outputs (leaver.Entry (record { guest = g; number = n })) (entry_at guest.own n) guest.settings streams (kept _ streams.outputs)
+  to_call clocks (call.Own it) g guest s streams goes_on = kept _ streams.outputs
 
   ended_call : (c : Call) (guest : Guest) → guest.ended ≡ true → guest_call_on name c guest ≡ None
   ended_call (call.On n it) guest e = ap (λ b. cond b None (entry_call_on name it (entry_at guest.own n) guest.settings)) e
@@ -179,13 +181,13 @@ module _ (R : Change) (holds : HoldsOfEach R) (name : List ℕ) where
   ended_call (call.Drop n) guest e = refl
   ended_call (call.Own it) guest e = refl
 
-  by_call : (b : Bool) (c : Call) (g : ℕ) (guest : Guest) (s : Shared) (streams : Streams) → guest.ended ≡ b → let done = answer_by b the_rules c g guest s streams in Holds (guest_call_on name c guest) done.reply streams.outputs done.streams.outputs
-  by_call true c g guest s streams e = subst (λ on. Holds on reply.Ended streams.outputs streams.outputs) (sym (ended_call c guest e)) (kept reply.Ended streams.outputs)
-  by_call false c g guest s streams e = let done = answer_to the_rules c g guest s streams in leaves_all (ends done.reply) (guest_call_on name c guest) done.reply streams.outputs (leaver.Guest g) guest.settings done.streams (to_call c g guest s streams e)
+  by_call : (clocks : Clocks) (b : Bool) (c : Call) (g : ℕ) (guest : Guest) (s : Shared) (streams : Streams) → guest.ended ≡ b → let done = answer_by b (the_calls clocks) c g guest s streams in Holds (guest_call_on name c guest) done.reply streams.outputs done.streams.outputs
+  by_call clocks true c g guest s streams e = subst (λ on. Holds on reply.Ended streams.outputs streams.outputs) (sym (ended_call c guest e)) (kept reply.Ended streams.outputs)
+  by_call clocks false c g guest s streams e = let done = answer_to (the_calls clocks) c g guest s streams in leaves_all (ends done.reply) (guest_call_on name c guest) done.reply streams.outputs (leaver.Guest g) guest.settings done.streams (to_call clocks c g guest s streams e)
 
-  in_call : (c : Call) (g : ℕ) (o : Option Guest) (s : Shared) (streams : Streams) → let done = answer_in the_rules c g o s streams in Holds (option_and_then (guest_call_on name c) o) done.reply streams.outputs done.streams.outputs
-  in_call c g None s streams = kept reply.Ended streams.outputs
-  in_call c g (Some guest) s streams = by_call guest.ended c g guest s streams refl
+  in_call : (clocks : Clocks) (c : Call) (g : ℕ) (o : Option Guest) (s : Shared) (streams : Streams) → let done = answer_in (the_calls clocks) c g o s streams in Holds (option_and_then (guest_call_on name c) o) done.reply streams.outputs done.streams.outputs
+  in_call clocks c g None s streams = kept reply.Ended streams.outputs
+  in_call clocks c g (Some guest) s streams = by_call clocks guest.ended c g guest s streams refl
 
   cond_none : (b : Bool) (answer : Reply) (before after : Named OutStream) → Holds (cond b None None) answer before after → Holds None answer before after
   cond_none true answer before after h = h
@@ -194,11 +196,12 @@ module _ (R : Change) (holds : HoldsOfEach R) (name : List ℕ) where
   -- ---- each step
   pub step_holds : (step : Line) (host : Host) (given : Given) → Holds (step_call_on name step host) (reply_to step host given) host.streams.outputs (host_after step host given).streams.outputs
   step_holds (line.Output n it) host given = declared host.streams.outputs n it (reply_to (line.Output n it) host given)
-  step_holds (line.Call g c) host given = in_call c g (guest_of host g) host.shared host.streams
+  step_holds (line.Call g c) host given = in_call host.clocks c g (guest_of host g) host.shared host.streams
   step_holds (line.Input n it) host given = kept _ host.streams.outputs
   step_holds (line.Guest g it) host given = kept _ host.streams.outputs
   step_holds (line.Configure g it) host given = kept _ host.streams.outputs
   step_holds (line.Worker it) host given = kept _ host.streams.outputs
+  step_holds (line.Clock it) host given = kept _ host.streams.outputs
   step_holds (line.Turn (task.Reader n)) host given = kept _ host.streams.outputs
   step_holds (line.Turn (task.Writer n)) host given =
       let turned = put None (λ s. reply.Worked (output_turned s).told) (λ s. (output_turned s).left) holds.turns (holds.keeps (reply.Worked (output_turned stream.Closed).told) None) n host.streams.outputs (bytes_eq n name) refl in

@@ -74,6 +74,7 @@ distinct_after names (line.Configure guest it) stands distinct = record { inputs
 distinct_after names (line.Call guest it) stands distinct = record { inputs = distinct.inputs; outputs = distinct.outputs; apart = distinct.apart }
 distinct_after names (line.Worker it) stands distinct = distinct
 distinct_after names (line.Turn it) stands distinct = distinct
+distinct_after names (line.Clock it) stands distinct = distinct
 
 -- after all steps of a valid script
 pub names_distinct : (names : Names) (steps : List Line) → AllStand names steps → AreDistinct names → AreDistinct (names_end names steps)

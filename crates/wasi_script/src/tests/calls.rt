@@ -4,11 +4,13 @@ ghost use Rattle.std.specs.Prelude.{◌≡◌, length, IfOk};
 
 use super::{bad_line, check_bytes, parsed};
 use crate::{
-    Access, Call, EntryCall, ExitStatus, Line, OwnCall, Script, Setting, Standard, WorkerTurn,
+    Access, Call, ClockCall, ClockSetting, EntryCall, ExitStatus, Line, OwnCall, Script, Setting,
+    Standard, WorkerTurn,
 };
 use std::alloc::Global;
 use std::process::Abort;
 use std::test::Fail;
+use wasi_clocks::WallTime;
 
 #[test]
 fn each_call_is_a_step(rt: HostRuntime) -> Result<(), Fail> {
@@ -410,5 +412,80 @@ fn a_write_is_longer_than_a_stream(rt: HostRuntime) -> Result<(), Fail> {
     }
     let pipe = format!(in rt.alloc(); "pipe P {digits}")?;
     assert_eq!(rt; bad_line(&rt, rt.alloc(), &pipe)?, Some(1));
+    Ok(())
+}
+
+#[test]
+fn calls_on_the_clocks(rt: HostRuntime) -> Result<(), Fail> {
+    let calls = [
+        ("wall-now", ClockCall::WallNow),
+        ("wall-resolution", ClockCall::WallResolution),
+        ("system-now", ClockCall::SystemNow),
+        ("system-resolution", ClockCall::SystemResolution),
+        ("mono-now", ClockCall::MonotonicNow),
+        ("mono-resolution", ClockCall::MonotonicResolution),
+        (
+            "subscribe-instant 18446744073709551615",
+            ClockCall::SubscribeInstant { when: u64::MAX },
+        ),
+        (
+            "subscribe-duration 00",
+            ClockCall::SubscribeDuration { duration: 0 },
+        ),
+        ("wait-until 7", ClockCall::WaitUntil { when: 7 }),
+        ("wait-for 8", ClockCall::WaitFor { duration: 8 }),
+    ];
+    for (text, want) in calls {
+        let text = format!(in rt.alloc(); "guest 3 empty\ncall 3 {text}")?;
+        let script = parsed(&rt, rt.alloc(), text.as_str())?;
+        match script.steps() {
+            [
+                _,
+                Line::Call {
+                    guest: 3,
+                    call: Call::Own(OwnCall::Clock(found)),
+                },
+            ] => assert_eq!(rt; *found, want),
+            _ => panic!(rt; "{text}"),
+        }
+    }
+    Ok(())
+}
+
+#[test]
+fn lines_that_set_a_clock(rt: HostRuntime) -> Result<(), Fail> {
+    let time = WallTime {
+        seconds: u64::MAX,
+        nanoseconds: 999_999_999,
+    };
+    let lines = [
+        ("clock mono 7", ClockSetting::Monotonic(7)),
+        ("clock mono-res 8", ClockSetting::MonotonicResolution(8)),
+        (
+            "clock wall 18446744073709551615 999999999",
+            ClockSetting::Wall(time),
+        ),
+        (
+            "clock wall-res 18446744073709551615 0999999999",
+            ClockSetting::WallResolution(time),
+        ),
+    ];
+    for (text, want) in lines {
+        let script = parsed(&rt, rt.alloc(), text)?;
+        match script.steps() {
+            [Line::Clock(found)] => assert_eq!(rt; *found, want),
+            _ => panic!(rt; "{text}"),
+        }
+    }
+    for text in [
+        "clock",
+        "clock mono",
+        "clock mono 1 2",
+        "clock wall 1",
+        "clock wall 0 1000000000",
+        "clock moon 1",
+    ] {
+        assert_eq!(rt; bad_line(&rt, rt.alloc(), text)?, Some(1), "{text}");
+    }
     Ok(())
 }
