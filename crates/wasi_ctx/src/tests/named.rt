@@ -4,7 +4,6 @@ use crate::{
     WasiRandomView,
 };
 use wasi_cli::{P2In, P2Out, WasiCliCtx};
-use wasi_random::WasiRandomCtx;
 use wasi_table::TableError;
 
 // A guest's contexts by name: a name that none has is the main one's.
