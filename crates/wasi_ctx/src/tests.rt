@@ -7,10 +7,10 @@ use std::process::Abort;
 use std::test::Fail;
 use wasi_cli::{InKind, OutKind, Stderr, Stdout};
 use wasi_clocks::{HostMonotonicClock, HostWallClock, WallTime};
-use wasi_random::thread_rng;
+use wasi_random::{WasiRandomCtx, thread_rng};
 
 // What a context has, but for its texts.
-#[derive(Clone, Copy, Debug, PartialEq, Eq)]
+#[derive(Drop)]
 struct Plain {
     stdin: InKind,
     stdout: OutKind,
@@ -66,27 +66,36 @@ fn allowed(sockets: &WasiSocketsCtx) -> (bool, bool) {
     )
 }
 
-/// What the context has; its generators are drawn from once.
-fn plain_of(ctx: WasiCtx) -> Plain {
-    let mut ctx = ctx;
-    Plain {
-        stdin: ctx.cli.stdin,
-        stdout: ctx.cli.stdout,
-        stderr: ctx.cli.stderr,
-        wall: ctx.clocks.wall_now(),
-        wall_resolution: ctx.clocks.wall_resolution(),
-        mono: ctx.clocks.mono_now(),
-        mono_resolution: ctx.clocks.mono_resolution(),
-        filesystem: ctx.filesystem,
-        secure: ctx.random.get_random_u64(),
-        insecure: ctx.random.get_insecure_random_u64(),
-        seed: ctx.random.insecure_seed(),
-        max_size: ctx.random.max_size,
-        tcp: ctx.sockets.tcp,
-        udp: ctx.sockets.udp,
-        ip_name_lookup: ctx.sockets.ip_name_lookup,
-        allowed: allowed(&ctx.sockets),
-    }
+/// Whether the context has these numbers; its generators are drawn from once.
+fn has_numbers(rt: &impl Abort, ctx: WasiCtx, want: &Plain) {
+    let WasiCtx {
+        cli,
+        clocks,
+        filesystem,
+        random,
+        sockets,
+    } = ctx;
+    assert_eq!(rt; cli.stdin, want.stdin);
+    assert_eq!(rt; cli.stdout, want.stdout);
+    assert_eq!(rt; cli.stderr, want.stderr);
+    assert_eq!(rt; clocks.wall_now(), want.wall);
+    assert_eq!(rt; clocks.wall_resolution(), want.wall_resolution);
+    assert_eq!(rt; clocks.mono_now(), want.mono);
+    assert_eq!(rt; clocks.mono_resolution(), want.mono_resolution);
+    assert_eq!(rt; filesystem, want.filesystem);
+    draws(rt, random, want);
+    assert_eq!(rt; sockets.tcp, want.tcp);
+    assert_eq!(rt; sockets.udp, want.udp);
+    assert_eq!(rt; sockets.ip_name_lookup, want.ip_name_lookup);
+    assert_eq!(rt; allowed(&sockets), want.allowed);
+}
+
+fn draws(rt: &impl Abort, sources: WasiRandomCtx, want: &Plain) {
+    let mut sources = sources;
+    assert_eq!(rt; sources.get_random_u64(), want.secure);
+    assert_eq!(rt; sources.get_insecure_random_u64(), want.insecure);
+    assert_eq!(rt; sources.insecure_seed(), want.seed);
+    assert_eq!(rt; sources.max_size, want.max_size);
 }
 
 /// Whether the context has these texts: pairs one after the other, arguments, first directory.
@@ -115,8 +124,8 @@ fn has_texts(
 }
 
 /// Whether the builder's context has these numbers and no texts.
-fn builds(rt: &impl Abort, builder: WasiCtxBuilder, want: Plain) {
+fn builds(rt: &impl Abort, builder: WasiCtxBuilder, want: &Plain) {
     let ctx = builder.build();
     has_texts(rt, &ctx, &[], &[], None);
-    assert_eq!(rt; plain_of(ctx), want);
+    has_numbers(rt, ctx, want);
 }

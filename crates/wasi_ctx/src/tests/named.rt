@@ -4,7 +4,6 @@ use crate::{
     WasiRandomView,
 };
 use wasi_cli::{P2In, P2Out, WasiCliCtx};
-use wasi_random::WasiRandomCtx;
 use wasi_table::TableError;
 
 // A guest's contexts by name: a name that none has is the main one's.
@@ -60,29 +59,56 @@ impl WasiCliNamedView for Guest {
     }
 }
 
+fn named_context(alloc: Global, number: u32) -> Result<WasiCliCtx, Fail> {
+    let mut cli = WasiCliCtx::default(alloc);
+    cli.stdin = InKind::Pipe(number);
+    cli.stdout = OutKind::Pipe(number);
+    cli.stderr = OutKind::Stdio {
+        number,
+        terminal: true,
+    };
+    cli.arguments.push(alloc, "named")?;
+    Ok(cli)
+}
+
 /// A guest whose main context has the shared input, as a terminal, and whose 16 named ones have
 /// pipes of their numbers.
 fn guest_of_16(alloc: Global) -> Result<Guest, Fail> {
-    let mut main = WasiCtxBuilder::new(alloc);
-    main.inherit_stdin(true).env(alloc, "name", "main")?;
+    let mut main = WasiCliCtx::default(alloc);
+    main.stdin = InKind::Shared { terminal: true };
+    main.environment.push(alloc, "name", "main")?;
     let mut named = Vec::new(alloc);
     for number in 0..16u32 {
-        let mut builder = WasiCtxBuilder::new(alloc);
-        builder
-            .stdin(InKind::Pipe(number))
-            .stdout(OutKind::Pipe(number));
-        builder.stderr(OutKind::Stdio {
-            number,
-            terminal: true,
-        });
-        builder.arg(alloc, "named")?;
-        named.push(builder.build().cli)?;
+        named.push(named_context(alloc, number)?)?;
     }
     Ok(Guest {
-        main: main.build().cli,
+        main,
         named,
         table: Table::new(alloc, 64),
     })
+}
+
+type View<'a> = WasiCtxNamedView<'a, Guest>;
+
+// A call each: what is known of a guest does not grow from call to call.
+fn stdin(rt: &impl Abort, view: &mut View, id: NamedId, number: u32) {
+    assert_eq!(rt; view.get_stdin(id), Ok(number));
+}
+
+fn stdout(rt: &impl Abort, view: &mut View, id: NamedId, number: u32) {
+    assert_eq!(rt; view.get_stdout(id), Ok(number));
+}
+
+fn terminal_stdin(rt: &impl Abort, view: &mut View, id: NamedId, number: Option<u32>) {
+    assert_eq!(rt; view.get_terminal_stdin(id), Ok(number));
+}
+
+fn terminal_stdout(rt: &impl Abort, view: &mut View, id: NamedId, number: Option<u32>) {
+    assert_eq!(rt; view.get_terminal_stdout(id), Ok(number));
+}
+
+fn terminal_stderr(rt: &impl Abort, view: &mut View, id: NamedId, number: Option<u32>) {
+    assert_eq!(rt; view.get_terminal_stderr(id), Ok(number));
 }
 
 fn stands(rt: &impl Abort, guest: &Guest, number: u32, kind: u32) {
@@ -96,17 +122,17 @@ fn contexts_by_name(rt: HostRuntime) -> Result<(), Fail> {
     let mut view = WasiCtxNamedView(&mut guest);
     for place in 0..16u32 {
         let id = NamedId(place as usize);
-        assert_eq!(rt; view.get_stdin(id), Ok(3 * place));
-        assert_eq!(rt; view.get_stdout(id), Ok(3 * place + 1));
-        assert_eq!(rt; view.get_terminal_stdin(id), Ok(None));
-        assert_eq!(rt; view.get_terminal_stdout(id), Ok(None));
-        assert_eq!(rt; view.get_terminal_stderr(id), Ok(Some(3 * place + 2)));
+        stdin(&rt, &mut view, id, 3 * place);
+        stdout(&rt, &mut view, id, 3 * place + 1);
+        terminal_stdin(&rt, &mut view, id, None);
+        terminal_stdout(&rt, &mut view, id, None);
+        terminal_stderr(&rt, &mut view, id, Some(3 * place + 2));
         assert_eq!(rt; view.get_environment(alloc, id)?.as_slice().len(), 0);
         assert_eq!(rt; view.get_arguments(alloc, id)?.as_slice().len(), 1);
     }
     let main = NamedId(16);
-    assert_eq!(rt; view.get_terminal_stdin(main), Ok(Some(48)));
-    assert_eq!(rt; view.get_stdin(main), Ok(49));
+    terminal_stdin(&rt, &mut view, main, Some(48));
+    stdin(&rt, &mut view, main, 49);
     assert_eq!(rt; view.get_stderr(main), Ok(50));
     assert_eq!(rt; view.get_environment(alloc, main)?.as_slice().len(), 1);
     assert!(rt; view.initial_cwd(alloc, main)?.is_none());
