@@ -8,3 +8,4 @@ pub mod ReplyFacts
 pub mod ScriptFacts
 pub mod Standing
 pub mod StepFacts
+pub mod WaitingFacts

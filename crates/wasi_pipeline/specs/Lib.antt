@@ -9,3 +9,4 @@ pub mod Link
 pub mod Program
 pub mod Run
 pub mod Steps
+pub mod Waiting

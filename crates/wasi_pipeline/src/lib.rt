@@ -20,7 +20,7 @@ mod tests;
 
 pub use chain_run::{Pipelines, run_chain};
 pub use kind::StageKind;
-pub use laws::{valid_runs_complete, valid_runs_conserve};
+pub use laws::{taking_nothing_has_a_cause, valid_runs_complete, valid_runs_conserve};
 pub use line::Line;
 pub use link::Link;
 pub use parse::{ScriptError, parse_script};
