@@ -11,7 +11,8 @@ use Rattle.wasi_threads.specs.declared.collect.CollectError.{CollectError}
 use Rattle.wasi_threads.specs.declared.collect.CollectError.TheVariants as refused
 use Rattle.std.specs.Prelude.{zero, suc}
 use Rattle.wasi_threads.specs.History.{AreLegal, opening, replayed}
-use Rattle.wasi_threads.specs.Rounds.{delivery_of, is_given}
+use Rattle.wasi_threads.specs.Rounds.{delivery_of, is_given, Worked}
+use Rattle.wasi_base.specs.Source.{Told}
 use Rattle.wasi_threads.specs.Passes.{Passing, part_after, AreParts, held_by, holders}
 
 -- a pass's entries begin its part
@@ -125,3 +126,7 @@ abbrev pub IsRefusal : CollectError → List Passing → Type 0
 IsRefusal (refused.Mismatch pass at kept found) passes = KeepsAt passes pass at kept × (found ≢ Some kept)
 IsRefusal (refused.Open shares total) passes = (shares ≡ held_by passes) × (shares ≢ total)
 IsRefusal refused.OutOfMemory passes = Unit {0}
+
+-- what the worker's deliveries brought in, and what the source has left, joined, stays
+abbrev pub DeliveriesKeepTheInput : Type 0
+DeliveriesKeepTheInput = (a b : Passing) (before after : Option Told) (faults now : ℕ) (t u : Told) → Worked a b before after faults now → before ≡ Some t → after ≡ Some u → brought_in b.entries ++ u.left ≡ brought_in a.entries ++ t.left

@@ -3,6 +3,7 @@
 
 mod collect;
 mod entry;
+mod laws;
 mod parts;
 mod pass;
 mod piece;
@@ -10,10 +11,13 @@ mod reply;
 mod round;
 mod shared;
 mod state;
+#[cfg(test)]
+mod tests;
 mod worker;
 
 pub use collect::{CollectError, Collected, settle};
 pub use entry::{Entry, Event, Kept};
+pub use laws::deliveries_keep_the_input;
 pub use pass::Pass;
 pub use piece::Piece;
 pub use reply::{PolledReply, ReadReply};
