@@ -2,12 +2,17 @@
 //! standard input.
 #![tactic(auto)]
 
+ghost use Rattle.std.specs.Prelude.{◌≤◌, length, IfOk};
+
 use std::env;
+use std::io::{ErrorKind, Read};
 use std::process::ExitCode;
 use thiserror::Error;
-use wasi_base::{OutOfMemory, StdSource};
-use wasi_commands::{ReadError, read_script};
+use wasi_base::OutOfMemory;
 use wasi_explain::explain;
+
+/// The most bytes that a script may have.
+const MOST_BYTES: usize = 16777216;
 
 /// Why nothing is told of a script.
 #[derive(Debug, Drop, Error)]
@@ -30,16 +35,6 @@ impl From<OutOfMemory> for Failure {
     }
 }
 
-impl From<ReadError> for Failure {
-    fn from(error: ReadError) -> Failure {
-        match error {
-            ReadError::Fault => Failure::ReadFault,
-            ReadError::TooLong => Failure::TooLong,
-            ReadError::OutOfMemory => Failure::OutOfMemory,
-        }
-    }
-}
-
 impl Failure {
     fn status(&self) -> u8 {
         match self {
@@ -59,12 +54,25 @@ fn has_no_words(rt: &HostRuntime) -> bool {
     }
 }
 
+fn read_script(rt: &HostRuntime) -> Result<Vec<u8>, Failure>
+    ensures { IfOk result (λ script. length script.items ≤ 16777216) }
+{
+    let mut script = Vec::new(rt.alloc());
+    let mut input = rt.stdin().take(MOST_BYTES as u64 + 1);
+    match input.read_to_end(&mut script) {
+        Ok(_) if script.len() <= MOST_BYTES => Ok(script),
+        Ok(_) => Err(Failure::TooLong),
+        Err(error) if error.kind() == ErrorKind::OutOfMemory => Err(Failure::OutOfMemory),
+        Err(_) => Err(Failure::ReadFault),
+    }
+}
+
 // Whether the script is valid. Where it is not, its first bad line is printed.
 fn tell(rt: &HostRuntime) -> Result<bool, Failure> {
     if !has_no_words(rt) {
         return Err(Failure::Usage);
     }
-    let script = read_script(rt.alloc(), &mut StdSource::new(rt.stdin()))?;
+    let script = read_script(rt)?;
     match explain(rt.alloc(), &script)? {
         None => Ok(true),
         Some(bad_line) => match println!(rt; "{bad_line}") {
