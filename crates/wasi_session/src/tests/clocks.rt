@@ -30,8 +30,12 @@ fn before_at_and_after_the_time(rt: HostRuntime) -> Result<(), Fail> {
         ("wait-until 10", "block"),
         ("wait-for 3", "ready"),
     ] {
-        let made = format!(in alloc; "guest 0 empty\nclock mono 7\ncall 0 {call}\ncall 0 {poll} 0\n")?;
-        let polled = format!(in alloc; "clock mono 9\ncall 0 {poll} 0\nclock mono 10\ncall 0 {poll} 0\nclock mono 11\ncall 0 {poll} 0\nclock mono 9\ncall 0 {poll} 0\ncall 0 drop 0\ncall 0 {poll} 0\n")?;
+        let made = format!(in alloc;
+            "guest 0 empty\nclock mono 7\ncall 0 {call}\ncall 0 {poll} 0\n"
+        )?;
+        let polled = format!(in alloc;
+            "clock mono 9\ncall 0 {poll} 0\nclock mono 10\ncall 0 {poll} 0\nclock mono 11\ncall 0 {poll} 0\nclock mono 9\ncall 0 {poll} 0\ncall 0 drop 0\ncall 0 {poll} 0\n"
+        )?;
         let script = format!(in alloc; "{made}{polled}")?;
         shows(
             &rt,
@@ -55,7 +59,9 @@ fn past_times(rt: HostRuntime) -> Result<(), Fail> {
         ("wait-until 7", "true"),
         ("wait-for 0", "true"),
     ] {
-        let script = format!(in alloc; "guest 0 empty\nclock mono 7\ncall 0 {call}\nclock mono 0\ncall 0 block 0\ncall 0 ready 0\n")?;
+        let script = format!(in alloc;
+            "guest 0 empty\nclock mono 7\ncall 0 {call}\nclock mono 0\ncall 0 block 0\ncall 0 ready 0\n"
+        )?;
         let transcript = format!(in alloc; "ok\nok\nhandle 0\nok\n{first}\ntrue\n")?;
         shows(&rt, alloc, script.as_bytes(), transcript.as_bytes())?;
     }
