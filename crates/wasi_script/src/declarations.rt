@@ -2,9 +2,7 @@ ghost use Rattle.std.specs.Prelude.{◌≡◌, ◌+◌, ◌<◌, length, slice_i
 ghost use Rattle.wasi_script.specs.Grammar.{Names, may_stand, may_declare, budget_stands, may_set_up, input_stands, output_stands, setting_stands, turn_stands, is_read_ahead, is_written_behind, names_after, no_names, is_among};
 ghost use Rattle.wasi_script.specs.declared.lines.Line.TheVariants as line;
 
-use crate::lines::{
-    Input, InputDeclaration, Line, Output, OutputDeclaration, Setting, StreamTask,
-};
+use crate::lines::{Input, InputDeclaration, Line, Output, OutputDeclaration, Setting, StreamTask};
 use crate::name::Name;
 use crate::name_set::NameSet;
 use std::alloc::Global;

@@ -5,11 +5,11 @@ ghost use Rattle.wasi_host.specs.Clocks.{time_told, instant_told, count_told};
 
 use crate::answers::mistaken;
 use wasi_base::TrapText;
+use wasi_cli::Owner;
 use wasi_clocks::{
     Deadline, Instant, Wait3, WallTime, subscribe_duration, subscribe_instant, system_now,
     system_resolution, wait_for, wait_until,
 };
-use wasi_cli::Owner;
 use wasi_host::{Clocks, Deed, Entry, OwnEntry};
 use wasi_reply::Told;
 use wasi_script::{ClockCall, EntryCall};

@@ -138,6 +138,7 @@ module _ (R : Change) (holds : HoldsOfEach R) (name : List ℕ) where
     leaves_entry : (o : Option Entry) (settings : Settings) (streams : Streams) → So (lookup (bytes_eq name) streams.outputs) → So (lookup (bytes_eq name) (leave_entry who o settings streams).outputs)
     leaves_entry None settings streams h = h
     leaves_entry (Some (entry.Shared e)) settings streams h = h
+    leaves_entry (Some (entry.Own e)) settings streams h = h
     leaves_entry (Some (entry.Stream standard.Input e)) settings streams h = leaves_input settings.input streams h
     leaves_entry (Some (entry.Stream standard.Output e)) settings streams h = leaves_output settings.stdout streams h
     leaves_entry (Some (entry.Stream standard.Error e)) settings streams h = leaves_output settings.stderr streams h
