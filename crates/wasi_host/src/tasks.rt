@@ -95,7 +95,7 @@ impl AsyncInput {
         shared_skip(&self.turns, &mut self.stream, size)
     }
 
-    /// A poll of an entry's handle. Want of memory leaves the input and its turn as they were.
+    /// A poll of an entry's handle. Out of memory leaves the input and its turn as they were.
     pub fn poll_read(
         &mut self,
         alloc: Global,
@@ -212,7 +212,7 @@ impl BufferedOutput {
         shared_flush(&self.turns, &mut self.stream)
     }
 
-    /// A poll of an entry's handle. Want of memory leaves the output and its turn as they were.
+    /// A poll of an entry's handle. Out of memory leaves the output and its turn as they were.
     pub fn poll_write(
         &mut self,
         alloc: Global,
@@ -233,7 +233,7 @@ impl BufferedOutput {
         }
     }
 
-    /// A poll of an entry's handle. Want of memory changes nothing.
+    /// A poll of an entry's handle. Out of memory changes nothing.
     pub fn poll_flush(
         &mut self,
         who: Owner,

@@ -30,13 +30,13 @@ pub fn awaited(clocks: &Clocks, call: &EntryCall, at: Owner, entry: OwnEntry) ->
 }
 
 // its entry keeps what the poll leaves
-fn poll_deadline(clocks: &Clocks, number: u64, deadline: Deadline) -> Deed
+fn poll_deadline(clocks: &Clocks, number: u32, deadline: Deadline) -> Deed
     ensures { result ≡ Deed.Change number (Entry.Own (OwnEntry.Deadline (polled deadline))) (Told.Truth (deadline_is_ready deadline clocks.now.monotonic_now)) }
 {
     let mut deadline = deadline;
     let told = Told::Truth(deadline.ready(clocks.monotonic_now));
     Deed::Change {
-        number,
+        number: u64::from(number),
         entry: Entry::Own(OwnEntry::Deadline(deadline)),
         told,
     }
