@@ -1,4 +1,5 @@
 use super::{Ending, USAGE, ends};
+use std::alloc::Global;
 use std::process::Abort;
 use std::test::Fail;
 use wasi_base::{IoKind, MemSource, SinkPlan};
