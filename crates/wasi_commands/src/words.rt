@@ -3,7 +3,7 @@ use std::rt::Env;
 use std::{env, io};
 
 /// The words of the command line, after the program's own name. Where one of them is not UTF-8
-/// there are none, since such words are of no form.
+/// there are none, so that they are unrecognised.
 pub fn command_words<R: Env + AllocGlobal>(rt: &R) -> io::Result<Vec<String>> {
     let mut words = Vec::new(rt.alloc());
     let given = match env::args(rt) {

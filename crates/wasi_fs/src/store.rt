@@ -57,7 +57,7 @@ pub trait Store {
     /// # Errors
     ///
     /// The fault's code, where one is met; else `FileTooLarge` exactly where the file would pass
-    /// the store's limit, else `InsufficientSpace` exactly where all files would. Those, and want
+    /// the store's limit, else `InsufficientSpace` exactly where all files would. Those, and out
     /// of memory, change nothing.
     fn write_at(&mut self, file: u64, at: At, bytes: &[u8]) -> Result<usize, StoreError>
         requires { is_file self.old file }

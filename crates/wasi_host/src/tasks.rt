@@ -124,7 +124,7 @@ impl AsyncInput {
         self.turns.holder().is_none() && self.stream.ready()
     }
 
-    /// A block of a pollable, which asks for the turn, and gives it on once the input is ready. Want
+    /// A block of a pollable, which asks for the turn, and gives it on once the input is ready. Out
     /// of memory changes nothing.
     pub fn block(&mut self, who: Owner) -> Result<bool, OutOfMemory>
         ensures answer { IfOk result (λ over. over ≡ block_in self.old.turn (reader_is_ready self.old.stream) who) }
@@ -253,7 +253,7 @@ impl BufferedOutput {
         self.turns.holder().is_none() && self.stream.ready()
     }
 
-    /// A block of a pollable, which asks for the turn, and gives it on once the output is ready. Want
+    /// A block of a pollable, which asks for the turn, and gives it on once the output is ready. Out
     /// of memory changes nothing.
     pub fn block(&mut self, who: Owner) -> Result<bool, OutOfMemory>
         ensures answer { IfOk result (λ over. over ≡ block_in self.old.turn (writer_is_ready self.old.stream) who) }

@@ -13,9 +13,9 @@ use wasi_base::{Sink, Source};
 use wasi_commands::run_command;
 
 /// All that the program does with its words, the script, the input, its output and the
-/// sink for a line on a refusal. Answers the exit status: 0 at the good end; 2 for words of no
-/// form, and then nothing is read; 3 where the script's source failed; 4 for a script of more than
-/// 16777216 bytes; 5 for a script with a line that is not valid; 6 where the output failed; 7
+/// sink for a line on a refusal. Answers the exit status: 0 at the good end; 2 for unrecognised
+/// words, and then nothing is read; 3 where the script's source failed; 4 for a script of more
+/// than 16777216 bytes; 5 for a script with a line that is not valid; 6 where the output failed; 7
 /// where memory ran out. Each but 0 is told on `err` in a line, as far as `err` takes it.
 pub fn run_pipeline<S: Source, I: Source, K: Sink, E: Sink>(
     alloc: Global,
