@@ -1,3 +1,4 @@
 pub mod Programs
 pub mod Reading
 pub mod Telling
+pub mod laws

@@ -1,5 +1,5 @@
 -- What the answer of a run says of its script, for any program: which scripts are valid, and which are bad at a line, is the program's own.
-use Rattle.std.specs.Prelude.{◌≡◌, ℕ, ◌≤◌, ◌<◌, Bool, false, List, [], ◌∷◌, length, take, Option, Some, Result, Ok, Err}
+use Rattle.std.specs.Prelude.{◌≡◌, ℕ, ◌+◌, ◌≤◌, ◌<◌, Bool, false, List, [], ◌∷◌, ◌++◌, length, take, drop, Option, Some, Result, Ok, Err}
 use Rattle.std.specs.Str.{bytes_eq}
 use Rattle.wasi_base.specs.Source.{Told}
 use Rattle.wasi_base.specs.Sink.{with_more}
@@ -52,18 +52,33 @@ abbrev pub OnNoMemory : ProgramError → Type 0 → Type 0
 OnNoMemory OutOfMemory P = P
 OnNoMemory _ P = Unit {0}
 
--- of a run's text a sink took a part alone, and the run left its input so
-pub record IsTakenInPart (text : List ℕ) (left : Told) (taken_before taken_after : Option (List ℕ)) (told_after : Option Told) : Type 0 where
-  pub count : ℕ
-  pub part : count < length text
-  pub out : taken_after ≡ with_more taken_before (take count text)
-  pub stdin : told_after ≡ Some left
+-- what closes a run, where no step is left
+abbrev pub closed_by : {Step : Type 0} → List Step → List ℕ → List ℕ
+closed_by [] closing = closing
+closed_by (step ∷ steps) closing = []
 
--- an input is left as some first steps of a run leave it
-pub record IsLeftByFirst {Step : Type 0} (steps : List Step) (left_by : List Step → Told) (told_after : Option Told) : Type 0 where
-  pub count : ℕ
-  pub within : count ≤ length steps
-  pub stdin : told_after ≡ Some (left_by (take count steps))
+-- what so many first steps tell: their replies, and what closes the run where these are all steps
+abbrev pub told_by_first : {Step : Type 0} → List Step → (List Step → List ℕ) → List ℕ → ℕ → List ℕ
+told_by_first steps replies_to closing count = replies_to (take count steps) ++ closed_by (drop count steps) closing
+
+-- A run of steps that ended early: so many first steps were done, and the input is left as they leave it. The output took, of
+-- what these steps tell, the replies to so many steps whole, that is to all of them or all but the last, and a part of what comes next.
+pub record IsEndedEarly {Step : Type 0} (steps : List Step) (replies_to : List Step → List ℕ) (closing : List ℕ) (left_by : List Step → Told) (taken_before taken_after : Option (List ℕ)) (told_after : Option Told) : Type 0 where
+  pub done : ℕ
+  pub within : done ≤ length steps
+  pub stdin : told_after ≡ Some (left_by (take done steps))
+  pub whole : ℕ
+  pub least : whole ≤ done
+  pub most : done ≤ whole + 1
+  pub part : List ℕ
+  pub rest : List ℕ
+  pub next : (replies_to (take whole steps) ++ part) ++ rest ≡ told_by_first steps replies_to closing done
+  pub out : taken_after ≡ with_more taken_before (replies_to (take whole steps) ++ part)
+
+-- the same, where the output failed: something of what the steps tell was not taken
+pub record IsCutShort {Step : Type 0} (steps : List Step) (replies_to : List Step → List ℕ) (closing : List ℕ) (left_by : List Step → Told) (taken_before taken_after : Option (List ℕ)) (told_after : Option Told) : Type 0 where
+  pub early : IsEndedEarly steps replies_to closing left_by taken_before taken_after told_after
+  pub short : 0 < length early.rest
 
 -- the words of a command on a file, as `run FILE`, where FILE is any word
 abbrev pub is_command_on_file : List ℕ → List (List ℕ) → Bool

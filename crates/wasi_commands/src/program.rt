@@ -5,7 +5,7 @@ ghost use Rattle.wasi_commands.specs.Programs.{RunTells, AnswerTells, OnUnstarte
 
 use crate::read::{ReadError, read_script};
 use std::alloc::Global;
-use wasi_base::{Sink, Source};
+use wasi_base::{OutOfMemory, Sink, Source, WriteStop};
 
 /// Why the run of a script that was read did not come to its good end.
 #[derive(Clone, Copy, Debug, PartialEq, Eq, Drop)]
@@ -15,6 +15,26 @@ pub enum RunError {
     /// The output failed.
     WriteFault,
     OutOfMemory,
+}
+
+impl From<OutOfMemory> for RunError {
+    ghost use Rattle.wasi_commands.specs.declared.program.RunError.TheVariants as run_error;
+
+    ghost from_gives = { λ _ result. result ≡ run_error.OutOfMemory };
+
+    fn from(_: OutOfMemory) -> RunError {
+        RunError::OutOfMemory
+    }
+}
+
+impl From<WriteStop> for RunError {
+    ghost use Rattle.wasi_commands.specs.declared.program.RunError.TheVariants as run_error;
+
+    ghost from_gives = { λ _ result. result ≡ run_error.WriteFault };
+
+    fn from(_: WriteStop) -> RunError {
+        RunError::WriteFault
+    }
 }
 
 /// Why a program did not come to its good end.
@@ -49,11 +69,12 @@ pub trait Program {
     /// The same of a run whose output failed.
     ghost is_cut_off: { List ℕ → Told → Option (List ℕ) → Option (List ℕ) → Option Told → Type 0 };
 
-    /// What the input tells after a run of the script on it that found no memory.
-    ghost is_stopped: { List ℕ → Told → Option Told → Type 0 };
+    /// The same of a run that found no memory.
+    ghost is_stopped: { List ℕ → Told → Option (List ℕ) → Option (List ℕ) → Option Told → Type 0 };
 
-    /// Checks a whole script of at most 16777216 bytes, and then runs it. A script that is not
-    /// valid leaves the input unread and writes nothing. Where memory runs out nothing is written.
+    /// Checks a whole script of at most 16777216 bytes, and then runs it: each reply is written
+    /// after its step and before the next. A script that is not valid leaves the input unread and
+    /// writes nothing. The output is not flushed.
     fn run<I: Source, K: Sink>(
         alloc: Global,
         script: &[u8],
@@ -65,20 +86,19 @@ pub trait Program {
         ensures script { RunTells is_valid is_bad_at result script.now }
         ensures write { result ≡ Err RunError.WriteFault → Rose (K.faults out.old) (K.faults out.new) }
         ensures cut_off { (t : Told) → I.told stdin.old ≡ Some t → result ≡ Err RunError.WriteFault → is_cut_off script.now t (K.taken out.old) (K.taken out.new) (I.told stdin.new) }
-        ensures stopped { (t : Told) → I.told stdin.old ≡ Some t → result ≡ Err RunError.OutOfMemory → is_stopped script.now t (I.told stdin.new) }
-        ensures unstarted { (n : ℕ) → result ≡ Err (RunError.BadScript n) → (out.new ≡ out.old) × (stdin.new ≡ stdin.old) }
-        ensures unwritten { result ≡ Err RunError.OutOfMemory → out.new ≡ out.old };
+        ensures stopped { (t : Told) → I.told stdin.old ≡ Some t → result ≡ Err RunError.OutOfMemory → is_stopped script.now t (K.taken out.old) (K.taken out.new) (I.told stdin.new) }
+        ensures unstarted { (n : ℕ) → result ≡ Err (RunError.BadScript n) → (out.new ≡ out.old) × (stdin.new ≡ stdin.old) };
 
     /// A valid script has no line that is not valid.
     ghost no_bad_line: { (script : List ℕ) → (n : ℕ) → is_valid script → is_bad_at script n → ⊥ };
 
     /// A run may find no memory before its first step.
-    ghost may_stop_unread: { (script : List ℕ) → (t : Told) → is_stopped script t (Some t) };
+    ghost may_stop_unread: { (script : List ℕ) → (t : Told) → (taken : Option (List ℕ)) → is_stopped script t taken taken (Some t) };
 }
 
 /// Reads a script and runs it. The whole script is read and checked before the first step, so
-/// until then nothing is written and the input is unread. Where memory runs out nothing is
-/// written.
+/// until then nothing is written and the input is unread. Each reply is written after its step
+/// and before the next. The output is not flushed.
 pub fn run_script<P: Program, S: Source, I: Source, K: Sink>(
     alloc: Global,
     script: &mut S,
@@ -90,9 +110,8 @@ pub fn run_script<P: Program, S: Source, I: Source, K: Sink>(
     ensures read { IfErr result (λ e. OnReadFault e (Rose (S.faults script.old) (S.faults script.new))) }
     ensures write { IfErr result (λ e. OnWriteFault e (Rose (K.faults out.old) (K.faults out.new))) }
     ensures cut_off { (s : Told) (t : Told) → S.told script.old ≡ Some s → I.told stdin.old ≡ Some t → IfErr result (λ e. OnWriteFault e (P.is_cut_off s.left t (K.taken out.old) (K.taken out.new) (I.told stdin.new))) }
-    ensures stopped { (s : Told) (t : Told) → S.told script.old ≡ Some s → I.told stdin.old ≡ Some t → IfErr result (λ e. OnNoMemory e (P.is_stopped s.left t (I.told stdin.new))) }
+    ensures stopped { (s : Told) (t : Told) → S.told script.old ≡ Some s → I.told stdin.old ≡ Some t → IfErr result (λ e. OnNoMemory e (P.is_stopped s.left t (K.taken out.old) (K.taken out.new) (I.told stdin.new))) }
     ensures unstarted { IfErr result (λ e. OnUnstarted e ((out.new ≡ out.old) × (stdin.new ≡ stdin.old))) }
-    ensures unwritten { result ≡ Err ProgramError.OutOfMemory → out.new ≡ out.old }
     ensures later { S.faults script.old ≤ S.faults script.new }
 {
     match read_script(alloc, script) {

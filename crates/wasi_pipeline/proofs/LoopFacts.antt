@@ -1,5 +1,6 @@
--- A run so far: what is told, and what the rest of it tells, are the whole.
-use Rattle.std.specs.Prelude.{take, zero, suc, Result, Ok, Err, OnErr}
+-- A run so far: what its first steps told and left.
+use Rattle.std.specs.Prelude.{take, zero, suc, Result, Ok, Err, OnOk}
+use Rattle.std.proofs.lemmas.List.{take_all}
 use Rattle.std.proofs.Common.{refl, ◌≡◌, ℕ, ◌+◌, ◌<◌, ◌≤◌, List, [], ◌∷◌, ◌++◌, length, get_or, drop, Option, Some, None, ap, add-one, arith, ◌∙◌, sym, subst, append-nil, append_assoc}
 use Rattle.std.proofs.Math.Seq.{drop-cons}
 use Rattle.std.proofs.lemmas.Grind.{common_steps}
@@ -9,7 +10,9 @@ use Rattle.wasi_reply.specs.Reply.{text_of_all, reply_line}
 use Rattle.wasi_pipeline.specs.Bounds.{HaveBounds}
 use Rattle.wasi_pipeline.specs.Feeding.{fed, size_fed}
 use Rattle.wasi_pipeline.specs.Steps.{HasBound, IsStep, Pipe, Stepped, new_pipe, of_fed, size_on, size_read, stepped, stepped_by}
-use Rattle.wasi_pipeline.specs.Run.{LeftByFirst, given_for, pipe_end, replies, step_told, stepped_with, told_end, told_for}
+use Rattle.wasi_base.specs.Sink.{with_more}
+use Rattle.wasi_commands.specs.laws.Ended.{after_first, within_next, short_of_next, with_more-nothing, with_more-more}
+use Rattle.wasi_pipeline.specs.Run.{CutShort, EndEarly, given_for, pipe_end, replies, step_told, stepped_with, told_end, told_for, transcript, told_after_run}
 use Rattle.wasi_pipeline.specs.declared.stage.Channel.{Channel}
 use Rattle.wasi_pipeline.specs.declared.stage.Stage.{Stage}
 use Rattle.wasi_pipeline.specs.declared.line.Line.{Line}
@@ -56,46 +59,6 @@ told_step before after old new step answer u is e =
       told_is = read.1;
     }
 
--- a run so far: what is told now, and what the rest would add and leave
-pub record SoFar (now : Option Told) (pipe : Pipe) (text : List ℕ) (rest : List Line) (whole : List ℕ) (last : Told) : Type 0 where
-  pub u : Told
-  pub now_is : now ≡ Some u
-  pub text_is : text ++ text_of_all (replies rest pipe u) ≡ whole
-  pub last_is : told_end rest pipe u ≡ last
-
-one_more : (before after : Option Told) (old new : Pipe) (text more : List ℕ) (step : Line) (answer : Reply) (rest : List Line) (whole : List ℕ) (last : Told) → SoFar before old text (step ∷ rest) whole last → IsStep before after old new step answer → more ≡ text ++ reply_line answer → SoFar after new more rest whole last
-one_more before after old new text more step answer rest whole last so_far is more_is =
-    let told = told_step before after old new step answer so_far.u is so_far.now_is in
-    record {
-      u = step_told step old so_far.u;
-      now_is = told.told_is;
-      text_is = rw (more_is, told.reply_is, told.pipe_is) (append_assoc text (reply_line (stepped_with step old so_far.u).reply) (text_of_all (replies rest (stepped_with step old so_far.u).pipe (step_told step old so_far.u))) ∙ so_far.text_is);
-      last_is = rw told.pipe_is so_far.last_is;
-    }
-
-next_step : (steps : List Line) (i : ℕ) (step : Line) → i < length steps → get_or steps i step ≡ step → drop i steps ≡ step ∷ drop (i + 1) steps
-next_step steps i step lt at = rw (add-one) (drop-cons steps i step lt ∙ ap (λ step. step ∷ drop (suc i) steps) at)
-
-pub go_on : (before after : Option Told) (old new : Pipe) (text more : List ℕ) (steps : List Line) (i : ℕ) (step : Line) (answer : Reply) (whole : List ℕ) (last : Told) → i < length steps → get_or steps i step ≡ step → SoFar before old text (drop i steps) whole last → IsStep before after old new step answer → more ≡ text ++ reply_line answer → SoFar after new more (drop (i + 1) steps) whole last
-go_on before after old new text more steps i step answer whole last lt at so_far is more_is =
-    one_more before after old new text more step answer (drop (i + 1) steps) whole last (subst (λ rest. SoFar before old text rest whole last) (next_step steps i step lt at) so_far) is more_is
-
--- what a run comes to
-abbrev pub IsEnd : Option Told → List ℕ → List ℕ → Told → Type 0
-IsEnd now text whole last = (text ≡ whole) × (now ≡ Some last)
-
-ended_at : (now : Option Told) (pipe : Pipe) (text : List ℕ) (rest : List Line) (whole : List ℕ) (last : Told) → rest ≡ [] → SoFar now pipe text rest whole last → IsEnd now text whole last
-ended_at now pipe text rest whole last none so_far =
-    let at : SoFar now pipe text [] whole last = subst (λ rest. SoFar now pipe text rest whole last) none so_far in
-    (sym (append-nil text) ∙ at.text_is, at.now_is ∙ ap Some at.last_is)
-
-drop_past : (steps : List Line) (i : ℕ) → length steps ≤ i → drop i steps ≡ []
-drop_past steps i past = grind (arith, common_steps)
-
-pub at_end : (now : Option Told) (pipe : Pipe) (text : List ℕ) (steps : List Line) (i : ℕ) (whole : List ℕ) (last : Told) → length steps ≤ i → SoFar now pipe text (drop i steps) whole last → IsEnd now text whole last
-at_end now pipe text steps i whole last past so_far = ended_at now pipe text (drop i steps) whole last (drop_past steps i past) so_far
-
--- ---- what some first steps left
 abbrev Follows : List Line → List Line → Line → Pipe → Told → Type 0
 Follows more before step pipe told = (told_end more pipe told ≡ step_told step (pipe_end before pipe told) (told_end before pipe told)) × (pipe_end more pipe told ≡ (stepped_with step (pipe_end before pipe told) (told_end before pipe told)).pipe)
 
@@ -119,13 +82,54 @@ one_after before after old new steps i step answer start told lt at so_far is =
       pipe_is = made.pipe_is ∙ (ap (λ pipe. (stepped_with step pipe now).pipe) so_far.pipe_is ∙ sym follows.1);
     }
 
--- the steps that were done are some first ones
-pub left_by_first : (now : Option Told) (pipe : Pipe) (steps : List Line) (i : ℕ) (told : Told) → i ≤ length steps → After now pipe (take i steps) new_pipe told → LeftByFirst steps told now
-left_by_first now pipe steps i told within so_far = record { count = i; within = within; stdin = so_far.now_is }
+-- .. and the text of their replies
+text_follows : (steps : List Line) (i : ℕ) (step : Line) (pipe : Pipe) (told : Told) → i < length steps → get_or steps i step ≡ step → text_of_all (replies (take (suc i) steps) pipe told) ≡ text_of_all (replies (take i steps) pipe told) ++ reply_line (stepped_with step (pipe_end (take i steps) pipe told) (told_end (take i steps) pipe told)).reply
+text_follows [] i step pipe told lt at = absurd (omega (arith, lt))
+text_follows (first ∷ steps) zero step pipe told lt at = rw (sym at) (append-nil (reply_line (stepped_with first pipe told).reply))
+text_follows (first ∷ steps) (suc i) step pipe told lt at =
+    let line = reply_line (stepped_with first pipe told).reply in
+    let next = (stepped_with first pipe told).pipe in
+    let left = step_told first pipe told in
+    ap (λ text. line ++ text) (text_follows steps i step next left (omega (arith, lt)) at) ∙ sym (append_assoc line (text_of_all (replies (take i steps) next left)) (reply_line (stepped_with step (pipe_end (take i steps) next left) (told_end (take i steps) next left)).reply))
 
-pub on_err : {A E : Type 0} (r : Result A E) (P : Type 0) → P → OnErr r P
-on_err (Ok done) P p = tt
-on_err (Err error) P p = p
+pub line_after : (before after : Option Told) (old new : Pipe) (steps : List Line) (i : ℕ) (step : Line) (answer : Reply) (told : Told) → i < length steps → get_or steps i step ≡ step → After before old (take i steps) new_pipe told → IsStep before after old new step answer → transcript (take (i + 1) steps) told ≡ transcript (take i steps) told ++ reply_line answer
+line_after before after old new steps i step answer told lt at so_far is =
+    let now = told_end (take i steps) new_pipe told in
+    let made = told_step before after old new step answer now is so_far.now_is in
+    let same : answer ≡ (stepped_with step (pipe_end (take i steps) new_pipe told) now).reply = made.reply_is ∙ ap (λ pipe. (stepped_with step pipe now).reply) so_far.pipe_is in
+    rw (same) (subst (λ n. transcript (take n steps) told ≡ transcript (take i steps) told ++ reply_line (stepped_with step (pipe_end (take i steps) new_pipe told) now).reply) (let e : suc i ≡ i + 1 = omega arith in e) (text_follows steps i step new_pipe told lt at))
+
+-- a step found no memory, and did nothing
+pub stopped_before : (now : Option Told) (pipe : Pipe) (steps : List Line) (i : ℕ) (told : Told) (at_first taken : Option (List ℕ)) → i < length steps → After now pipe (take i steps) new_pipe told → taken ≡ with_more at_first (transcript (take i steps) told) → EndEarly steps told at_first taken now
+stopped_before now pipe steps i told at_first taken lt so_far took = after_first steps (λ first. transcript first told) [] (λ first. told_after_run first told) at_first taken now i (omega (arith, lt)) so_far.now_is took
+
+-- .. or was, and has no reply
+pub stopped_after : (before now : Option Told) (old new : Pipe) (steps : List Line) (i : ℕ) (step : Line) (answer : Reply) (told : Told) (at_first taken : Option (List ℕ)) → i < length steps → get_or steps i step ≡ step → After before old (take i steps) new_pipe told → IsStep before now old new step answer → taken ≡ with_more at_first (transcript (take i steps) told) → EndEarly steps told at_first taken now
+stopped_after before now old new steps i step answer told at_first taken lt at so_far is took =
+    let one = one_after before now old new steps i step answer new_pipe told lt at so_far is in
+    within_next steps (λ first. transcript first told) [] (λ first. told_after_run first told) at_first taken now i 0 (reply_line answer) lt (line_after before now old new steps i step answer told lt at so_far is) one.now_is (took ∙ with_more-nothing (with_more at_first (transcript (take i steps) told)))
+
+-- of a step's reply a part was written
+pub cut_at : (told_before told_now : Option Told) (old new : Pipe) (steps : List Line) (i n : ℕ) (step : Line) (answer : Reply) (text : List ℕ) (told : Told) (at_first before taken : Option (List ℕ)) → i < length steps → get_or steps i step ≡ step → After told_before old (take i steps) new_pipe told → IsStep told_before told_now old new step answer → before ≡ with_more at_first (transcript (take i steps) told) → text ≡ reply_line answer → n < length text → taken ≡ with_more before (take n text) → CutShort steps told at_first taken told_now
+cut_at told_before told_now old new steps i n step answer text told at_first before taken lt at so_far is took text_is short more =
+    let one = one_after told_before told_now old new steps i step answer new_pipe told lt at so_far is in
+    short_of_next steps (λ first. transcript first told) [] (λ first. told_after_run first told) at_first taken told_now i n (reply_line answer) (subst (λ text. n < length text) text_is short) lt (line_after told_before told_now old new steps i step answer told lt at so_far is) one.now_is (more ∙ (λ i. with_more (took i) (take n (text_is i))))
+
+-- .. or all of it
+pub written_at : (told_before told_now : Option Told) (old new : Pipe) (steps : List Line) (i : ℕ) (step : Line) (answer : Reply) (text : List ℕ) (told : Told) (at_first before taken : Option (List ℕ)) → i < length steps → get_or steps i step ≡ step → After told_before old (take i steps) new_pipe told → IsStep told_before told_now old new step answer → before ≡ with_more at_first (transcript (take i steps) told) → text ≡ reply_line answer → taken ≡ with_more before text → taken ≡ with_more at_first (transcript (take (i + 1) steps) told)
+written_at told_before told_now old new steps i step answer text told at_first before taken lt at so_far is took text_is more =
+    more ∙ (λ i. with_more (took i) (text_is i)) ∙ with_more-more at_first (transcript (take i steps) told) (reply_line answer) ∙ ap (with_more at_first) (sym (line_after told_before told_now old new steps i step answer told lt at so_far is))
+
+-- all steps were done
+abbrev pub IsEnd : Option Told → Option (List ℕ) → Option (List ℕ) → List Line → Told → Type 0
+IsEnd now at_first taken steps told = (taken ≡ with_more at_first (transcript steps told)) × (now ≡ Some (told_after_run steps told))
+
+pub at_end : (now : Option Told) (pipe : Pipe) (steps : List Line) (i : ℕ) (told : Told) (at_first taken : Option (List ℕ)) → length steps ≤ i → After now pipe (take i steps) new_pipe told → taken ≡ with_more at_first (transcript (take i steps) told) → IsEnd now at_first taken steps told
+at_end now pipe steps i told at_first taken past so_far took = subst (λ first. IsEnd now at_first taken first told) (take_all i steps past) (took, so_far.now_is)
+
+pub on_done : {A E : Type 0} (result : Result A E) (P Q : Type 0) → (P → Q) → OnOk result P → OnOk result Q
+on_done (Ok done) P Q then is = then is
+on_done (Err error) P Q then is = tt
 
 -- the bound of a step among others
 pub bound_at : (steps : List Line) (i : ℕ) (step : Line) → i < length steps → get_or steps i step ≡ step → HaveBounds steps → HasBound step

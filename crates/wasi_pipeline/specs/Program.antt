@@ -2,12 +2,12 @@
 use Rattle.std.specs.Prelude.{◌≡◌, ℕ, Bool, List, Option, Some, Result, codes}
 use Rattle.wasi_base.specs.Source.{Told}
 use Rattle.wasi_base.specs.Sink.{with_more}
-use Rattle.wasi_commands.specs.Programs.{AnswerTells, IsTakenInPart, is_command_on_file}
+use Rattle.wasi_commands.specs.Programs.{AnswerTells, is_command_on_file}
 use Rattle.wasi_commands.specs.declared.program.ProgramError.{ProgramError}
 use Rattle.wasi_pipeline.specs.Completion.{Completes}
 use Rattle.wasi_pipeline.specs.Conservation.{ConservesAtEachStep}
 use Rattle.wasi_pipeline.specs.Grammar.{parsed, Bad, IsGood, steps_of}
-use Rattle.wasi_pipeline.specs.Run.{transcript, told_after_run}
+use Rattle.wasi_pipeline.specs.Run.{transcript, told_after_run, CutShort, EndEarly}
 
 -- `pipe FILE`, where FILE is any word
 abbrev pub is_pipe_words : List (List ℕ) → Bool
@@ -36,6 +36,9 @@ pub record IsDone (script : List ℕ) (input : Told) (taken_before taken_after :
 abbrev pub ScriptRead : Result (Unit {0}) ProgramError → Told → Option Told → Type 0
 ScriptRead = AnswerTells IsValid IsBadAt
 
--- a run whose output failed: a part of the transcript was taken, and the input is left as the run left it
+-- a run of a script that found no memory, and one whose output failed
+abbrev pub IsStopped : List ℕ → Told → Option (List ℕ) → Option (List ℕ) → Option Told → Type 0
+IsStopped script = EndEarly (steps_of (parsed script))
+
 abbrev pub IsCutOff : List ℕ → Told → Option (List ℕ) → Option (List ℕ) → Option Told → Type 0
-IsCutOff script input = IsTakenInPart (transcript (steps_of (parsed script)) input) (told_after_run (steps_of (parsed script)) input)
+IsCutOff script = CutShort (steps_of (parsed script))

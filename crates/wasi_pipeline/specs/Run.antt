@@ -2,7 +2,7 @@
 use Rattle.std.specs.Prelude.{ℕ, zero, suc, List, [], ◌∷◌, Option}
 use Rattle.wasi_base.specs.Source.{Told, Given, gives, told_after}
 use Rattle.wasi_base.specs.Source as given
-use Rattle.wasi_commands.specs.Programs.{IsLeftByFirst}
+use Rattle.wasi_commands.specs.Programs.{IsEndedEarly, IsCutShort}
 use Rattle.wasi_reply.specs.declared.reply.Reply.{Reply}
 use Rattle.wasi_reply.specs.Reply.{text_of_all}
 use Rattle.wasi_pipeline.specs.Steps.{Pipe, Stepped, new_pipe, stepped, size_read}
@@ -43,6 +43,9 @@ transcript steps told = text_of_all (replies steps new_pipe told)
 abbrev pub told_after_run : List Line → Told → Told
 told_after_run steps told = told_end steps new_pipe told
 
--- a run that found no memory: the input is left as some first steps of it left it
-abbrev pub LeftByFirst : List Line → Told → Option Told → Type 0
-LeftByFirst steps input = IsLeftByFirst steps (λ first. told_after_run first input)
+-- a run that found no memory, and one whose output failed
+abbrev pub EndEarly : List Line → Told → Option (List ℕ) → Option (List ℕ) → Option Told → Type 0
+EndEarly steps input = IsEndedEarly steps (λ first. transcript first input) [] (λ first. told_after_run first input)
+
+abbrev pub CutShort : List Line → Told → Option (List ℕ) → Option (List ℕ) → Option Told → Type 0
+CutShort steps input = IsCutShort steps (λ first. transcript first input) [] (λ first. told_after_run first input)

@@ -1,25 +1,24 @@
-ghost use Rattle.std.specs.Prelude.{◌≡◌, ◌≤◌, IfErr, OnOk, Some, Err};
+ghost use Rattle.std.specs.Prelude.{◌≡◌, ◌≤◌, [], IfErr, OnOk, Some, Err};
 ghost use Rattle.wasi_base.specs.Causes.{Rose};
 ghost use Rattle.wasi_base.specs.Source.{Told};
 ghost use Rattle.wasi_commands.specs.Programs.{OnUnstarted, OnReadFault, OnWriteFault, OnNoMemory};
-ghost use Rattle.wasi_pipeline.specs.Grammar.{parsed, steps_of};
-ghost use Rattle.wasi_pipeline.specs.Program.{ScriptRead, IsCutOff, IsDone};
-ghost use Rattle.wasi_pipeline.specs.Run.{LeftByFirst};
+ghost use Rattle.wasi_pipeline.specs.Program.{ScriptRead, IsCutOff, IsDone, IsStopped};
 
 use crate::parse::{ScriptError, parse_script};
 use crate::run::run_steps;
 use std::alloc::Global;
-use wasi_base::{Sink, Source, write_all};
+use wasi_base::{Sink, Source};
 use wasi_commands::{Program, ProgramError as PipelineError, RunError, run_script};
 
 /// The language of scripts of pipelines, as programs run it.
 pub struct Pipelines;
 
 impl Program for Pipelines {
-    ghost use Rattle.std.proofs.Common.{subst, refl, rules};
+    ghost use Rattle.std.proofs.Common.{subst, refl};
+    ghost use Rattle.wasi_commands.specs.laws.Ended.{before_first};
     ghost use Rattle.wasi_pipeline.specs.Grammar.{IsGood, parsed, steps_of};
-    ghost use Rattle.wasi_pipeline.specs.Program.{IsValid, IsBadAt, IsCutOff, IsDone};
-    ghost use Rattle.wasi_pipeline.specs.Run.{LeftByFirst};
+    ghost use Rattle.wasi_pipeline.specs.Program.{IsValid, IsBadAt, IsCutOff, IsDone, IsStopped};
+    ghost use Rattle.wasi_pipeline.specs.Run.{transcript, told_after_run};
 
     ghost is_valid = { IsValid };
 
@@ -29,11 +28,11 @@ impl Program for Pipelines {
 
     ghost is_cut_off = { IsCutOff };
 
-    ghost is_stopped = { λ script. LeftByFirst (steps_of (parsed script)) };
+    ghost is_stopped = { IsStopped };
 
     ghost no_bad_line = { λ script n good bad. subst IsGood bad good };
 
-    ghost may_stop_unread = { λ script t. record { count = 0; within = Prim.search rules; stdin = refl } };
+    ghost may_stop_unread = { λ script t taken. before_first (steps_of (parsed script)) (λ first. transcript first t) [] (λ first. told_after_run first t) taken refl };
 
     fn run<I: Source, K: Sink>(
         alloc: Global,
@@ -42,13 +41,7 @@ impl Program for Pipelines {
         out: &mut K,
     ) -> Result<(), RunError> {
         match parse_script(alloc, script) {
-            Ok(steps) => match run_steps(alloc, steps.as_slice(), stdin) {
-                Ok(text) => match write_all(out, &text) {
-                    Ok(()) => Ok(()),
-                    Err(_) => Err(RunError::WriteFault),
-                },
-                Err(_) => Err(RunError::OutOfMemory),
-            },
+            Ok(steps) => run_steps(alloc, steps.as_slice(), stdin, out),
             Err(ScriptError::BadLine(number)) => Err(RunError::BadScript(number)),
             Err(ScriptError::OutOfMemory) => Err(RunError::OutOfMemory),
         }
@@ -57,8 +50,9 @@ impl Program for Pipelines {
 
 /// A whole run: reads the script, runs its steps on the input, and writes the
 /// transcript. The whole script is read and checked before the first step, so until then nothing
-/// is written and the input is unread. Where memory runs out nothing is written, and the input is
-/// left as some first steps left it.
+/// is written and the input is unread. Each reply is written after its step and before the next,
+/// so a run whose output fails, or that finds no memory, did at most one step more than it wrote
+/// whole replies, and left the input as these steps left it. The output is not flushed.
 pub fn run_chain<S: Source, I: Source, K: Sink>(
     alloc: Global,
     script: &mut S,
@@ -70,9 +64,8 @@ pub fn run_chain<S: Source, I: Source, K: Sink>(
     ensures read { IfErr result (λ e. OnReadFault e (Rose (S.faults script.old) (S.faults script.new))) }
     ensures write { IfErr result (λ e. OnWriteFault e (Rose (K.faults out.old) (K.faults out.new))) }
     ensures cut_off { (s : Told) (t : Told) → S.told script.old ≡ Some s → I.told stdin.old ≡ Some t → IfErr result (λ e. OnWriteFault e (IsCutOff s.left t (K.taken out.old) (K.taken out.new) (I.told stdin.new))) }
-    ensures stopped { (s : Told) (t : Told) → S.told script.old ≡ Some s → I.told stdin.old ≡ Some t → IfErr result (λ e. OnNoMemory e (LeftByFirst (steps_of (parsed s.left)) t (I.told stdin.new))) }
+    ensures stopped { (s : Told) (t : Told) → S.told script.old ≡ Some s → I.told stdin.old ≡ Some t → IfErr result (λ e. OnNoMemory e (IsStopped s.left t (K.taken out.old) (K.taken out.new) (I.told stdin.new))) }
     ensures unstarted { IfErr result (λ e. OnUnstarted e ((out.new ≡ out.old) × (stdin.new ≡ stdin.old))) }
-    ensures unwritten { result ≡ Err PipelineError.OutOfMemory → out.new ≡ out.old }
     ensures later { S.faults script.old ≤ S.faults script.new }
 {
     run_script::<Pipelines, S, I, K>(alloc, script, stdin, out)

@@ -3,9 +3,8 @@ ghost use Rattle.wasi_base.specs.Causes.{Rose};
 ghost use Rattle.wasi_base.specs.Source.{Told};
 ghost use Rattle.wasi_commands.specs.Reading.{IsReadWhole, IsReadPast, IsReadInPart};
 ghost use Rattle.wasi_commands.specs.Telling.{words_of, Tells, read_fault_line, too_long_line, write_fault_line, out_of_memory_line, bad_script_line};
-ghost use Rattle.wasi_pipeline.specs.Grammar.{parsed, Bad, IsGood, steps_of};
-ghost use Rattle.wasi_pipeline.specs.Program.{is_pipe_words, usage_line, IsDone, IsCutOff};
-ghost use Rattle.wasi_pipeline.specs.Run.{LeftByFirst};
+ghost use Rattle.wasi_pipeline.specs.Grammar.{parsed, Bad, IsGood};
+ghost use Rattle.wasi_pipeline.specs.Program.{is_pipe_words, usage_line, IsDone, IsCutOff, IsStopped};
 
 use crate::chain_run::Pipelines;
 use std::alloc::Global;
@@ -36,9 +35,8 @@ pub fn run_pipeline<S: Source, I: Source, K: Sink, E: Sink>(
     ensures bad { result ≡ 5 → (n : ℕ) × ((s : Told) → S.told script.old ≡ Some s → IsReadWhole s (S.told script.new) × (parsed s.left ≡ Bad n)) × Tells (bad_script_line n) (E.taken err.old) (E.taken err.new) (E.faults err.old) (E.faults err.new) }
     ensures write { result ≡ 6 → Rose (K.faults out.old) (K.faults out.new) × ((s : Told) → S.told script.old ≡ Some s → IsReadWhole s (S.told script.new) × IsGood (parsed s.left)) × Tells write_fault_line (E.taken err.old) (E.taken err.new) (E.faults err.old) (E.faults err.new) }
     ensures cut_off { (s : Told) (t : Told) → S.told script.old ≡ Some s → I.told stdin.old ≡ Some t → result ≡ 6 → IsCutOff s.left t (K.taken out.old) (K.taken out.new) (I.told stdin.new) }
-    ensures memory { result ≡ 7 → (out.new ≡ out.old) × Tells out_of_memory_line (E.taken err.old) (E.taken err.new) (E.faults err.old) (E.faults err.new) }
-
-    ensures stopped { (s : Told) (t : Told) → S.told script.old ≡ Some s → I.told stdin.old ≡ Some t → result ≡ 7 → LeftByFirst (steps_of (parsed s.left)) t (I.told stdin.new) }
+    ensures memory { result ≡ 7 → Tells out_of_memory_line (E.taken err.old) (E.taken err.new) (E.faults err.old) (E.faults err.new) }
+    ensures stopped { (s : Told) (t : Told) → S.told script.old ≡ Some s → I.told stdin.old ≡ Some t → result ≡ 7 → IsStopped s.left t (K.taken out.old) (K.taken out.new) (I.told stdin.new) }
 
     // before the first step nothing is written and the input is unread
     ensures unstarted { 2 ≤ result → result ≤ 5 → (out.new ≡ out.old) × (stdin.new ≡ stdin.old) }

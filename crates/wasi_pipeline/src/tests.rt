@@ -3,6 +3,7 @@ use std::alloc::Global;
 use std::process::Abort;
 use std::test::Fail;
 use wasi_base::{CleanSource, IoKind, MemSink, MemSource, Plan};
+use wasi_words::Parts;
 
 // a script on an input with its plan: the transcript, and what is left of the input
 fn plays(
@@ -111,6 +112,84 @@ fn bytes_go_through_fifteen_stages(rt: HostRuntime) -> Result<(), Fail> {
         none,
         b"ok\nok\nok\nok\nok\nok\nok\nok\nok\nok\nok\nok\nok\nok\nok\nok\ncount 2\ncount 2\ncount 2\ncount 2\ncount 2\ncount 2\ncount 2\ncount 2\ncount 2\ncount 2\ncount 2\ncount 2\ncount 2\ncount 2\ncount 2\ncount 2\nbytes 34623762\n",
         b"z",
+    )
+}
+
+// the digits of all that a transcript says was drained, joined
+fn drained(alloc: Global, transcript: &[u8]) -> Result<Vec<u8>, Fail> {
+    let mut digits = Vec::new(alloc);
+    for reply in Parts::new(transcript, b'\n') {
+        if let [b'b', b'y', b't', b'e', b's', b' ', hex @ ..] = reply {
+            if hex != b"-" {
+                digits.extend_from_slice(hex)?;
+            }
+        }
+    }
+    Ok(digits)
+}
+
+// One stage between two links, turned with a few bytes at a time until its output ends.
+fn passes(
+    rt: &impl Abort,
+    alloc: Global,
+    kind: &str,
+    bounds: (u32, u32),
+    most: u32,
+    expected: &[u8],
+) -> Result<(), Fail> {
+    let (first, last) = bounds;
+    let links = format!(in alloc; "link {first}\nstage {kind} {last}\n")?;
+    let turns = format!(in alloc; "feed {most}\npump 1 {most}\ndrain {most}\n")?;
+    let mut script = Vec::from_slice(alloc, links.as_bytes())?;
+    for _ in 0..40 {
+        script.extend_from_slice(turns.as_bytes())?;
+    }
+    let mut script = CleanSource::new(script);
+    let mut stdin = MemSource::new(Vec::from_slice(alloc, b"aaabbb{{zzzzaab")?, Vec::new(alloc));
+    let mut out = MemSink::new(alloc, 4096, Vec::new(alloc))?;
+    let answer = run_chain(alloc, &mut script, &mut stdin, &mut out);
+    assert!(rt; answer.is_ok());
+    assert!(rt; out.taken().ends_with(b"closed\nclosed\nclosed\n"));
+    assert_eq!(rt; drained(alloc, out.taken())?.as_slice(), expected);
+    assert_eq!(rt; stdin.left().len(), 0);
+    Ok(())
+}
+
+// Repeats stand at the seams of deliveries, of turns and of the links themselves.
+#[test]
+fn each_kind_with_small_bounds(rt: HostRuntime) -> Result<(), Fail> {
+    let kinds: [(&str, &[u8]); 4] = [
+        ("copy", b"6161616262627b7b7a7a7a7a616162"),
+        ("upper", b"4141414242427b7b5a5a5a5a414142"),
+        (
+            "hex",
+            b"363136313631363236323632376237623761376137613761363136313632",
+        ),
+        ("squeeze", b"61627b7a6162"),
+    ];
+    for (kind, expected) in kinds {
+        for first in 2..6u32 {
+            for last in 2..6u32 {
+                passes(&rt, rt.alloc(), kind, (first, last), 1, expected)?;
+                passes(&rt, rt.alloc(), kind, (first, last), 2, expected)?;
+                passes(&rt, rt.alloc(), kind, (first, last), 5, expected)?;
+            }
+        }
+    }
+    Ok(())
+}
+
+#[test]
+fn a_stop_in_the_middle(rt: HostRuntime) -> Result<(), Fail> {
+    let none = Vec::new(rt.alloc());
+    plays(
+        &rt,
+        rt.alloc(),
+        b"link 4\nstage copy 4\nstage upper 4\nstage copy 4\nfeed 4\npump 1 3\npump 2 2\npump 3 1\nstop 2\npump 1 1\npump 2 1\nfeed 4\npump 3 4\npump 3 4\ndrain 4\ndrain 4\n",
+        b"abcdef",
+        none,
+        b"ok\nok\nok\nok\ncount 4\ncount 3\ncount 2\ncount 1\nok\nclosed\nended\ncount 2\ncount 1\nclosed\nbytes 4142\nclosed\n",
+        b"",
     )
 }
 

@@ -3,11 +3,11 @@ ghost use Rattle.std.specs.Str.{bytes_eq};
 ghost use Rattle.wasi_base.specs.Causes.{Rose};
 ghost use Rattle.wasi_base.specs.Source.{Told};
 ghost use Rattle.wasi_base.specs.Sink.{with_more};
-ghost use Rattle.wasi_script.specs.Grammar.{parsed, Bad, IsGood, steps_of};
+ghost use Rattle.wasi_script.specs.Grammar.{parsed, Bad, IsGood};
 ghost use Rattle.wasi_host.specs.Transcript.{IsDone};
 ghost use Rattle.wasi_commands.specs.Reading.{IsReadWhole, IsReadPast, IsReadInPart};
 ghost use Rattle.wasi_commands.specs.Telling.{words_of, Tells, read_fault_line, too_long_line, write_fault_line, out_of_memory_line, bad_script_line};
-ghost use Rattle.wasi_session.specs.Reading.{IsCutOff, LeftByFirst};
+ghost use Rattle.wasi_session.specs.Reading.{IsCutOff, IsStopped};
 ghost use Rattle.wasi_session.specs.Program.{is_run_words, generated_in, usage_line};
 ghost use Rattle.wasi_session.specs.Generated.{report};
 
@@ -43,9 +43,8 @@ pub fn run_program<S: Source, I: Source, K: Sink, E: Sink>(
     ensures bad { result ≡ 5 → (n : ℕ) × ((s : Told) → S.told script.old ≡ Some s → IsReadWhole s (S.told script.new) × (parsed s.left ≡ Bad n)) × Tells (bad_script_line n) (E.taken err.old) (E.taken err.new) (E.faults err.old) (E.faults err.new) }
     ensures write { is_run_words (words_of words.now) ≡ true → result ≡ 6 → Rose (K.faults out.old) (K.faults out.new) × ((s : Told) → S.told script.old ≡ Some s → IsReadWhole s (S.told script.new) × IsGood (parsed s.left)) × Tells write_fault_line (E.taken err.old) (E.taken err.new) (E.faults err.old) (E.faults err.new) }
     ensures cut_off { is_run_words (words_of words.now) ≡ true → (s : Told) (t : Told) → S.told script.old ≡ Some s → I.told stdin.old ≡ Some t → result ≡ 6 → IsCutOff s.left t (K.taken out.old) (K.taken out.new) (I.told stdin.new) }
-    ensures memory { result ≡ 7 → (out.new ≡ out.old) × Tells out_of_memory_line (E.taken err.old) (E.taken err.new) (E.faults err.old) (E.faults err.new) }
-
-    ensures stopped { is_run_words (words_of words.now) ≡ true → (s : Told) (t : Told) → S.told script.old ≡ Some s → I.told stdin.old ≡ Some t → result ≡ 7 → LeftByFirst (steps_of (parsed s.left)) t (I.told stdin.new) }
+    ensures memory { result ≡ 7 → Tells out_of_memory_line (E.taken err.old) (E.taken err.new) (E.faults err.old) (E.faults err.new) }
+    ensures stopped { is_run_words (words_of words.now) ≡ true → (s : Told) (t : Told) → S.told script.old ≡ Some s → I.told stdin.old ≡ Some t → result ≡ 7 → IsStopped s.left t (K.taken out.old) (K.taken out.new) (I.told stdin.new) }
 
     // before the first step nothing is written and the input is unread
     ensures unstarted { 2 ≤ result → result ≤ 5 → (out.new ≡ out.old) × (stdin.new ≡ stdin.old) }
@@ -56,6 +55,7 @@ pub fn run_program<S: Source, I: Source, K: Sink, E: Sink>(
     // a generated run reads nothing, and reports its counts
     ensures reported { (number lines : ℕ) → generated_in (words_of words.now) ≡ Some (number, lines) → result ≡ 0 → K.taken out.new ≡ with_more (K.taken out.old) (report number lines) }
     ensures reported_in_part { (number lines : ℕ) → generated_in (words_of words.now) ≡ Some (number, lines) → result ≡ 6 → ((n : ℕ) × (n < length (report number lines)) × (K.taken out.new ≡ with_more (K.taken out.old) (take n (report number lines)))) × Rose (K.faults out.old) (K.faults out.new) × Tells write_fault_line (E.taken err.old) (E.taken err.new) (E.faults err.old) (E.faults err.new) }
+    ensures unreported { (number lines : ℕ) → generated_in (words_of words.now) ≡ Some (number, lines) → result ≡ 7 → out.new ≡ out.old }
     ensures unread { (number lines : ℕ) → generated_in (words_of words.now) ≡ Some (number, lines) → (script.new ≡ script.old) × (stdin.new ≡ stdin.old) × ((result ≡ 0) ⊎ ((6 ≤ result) × (result ≤ 7))) }
 {
     match generated_words(words) {
