@@ -11,5 +11,5 @@ mod words;
 pub use command::run_command;
 pub use program::{Program, ProgramError, RunError, run_script};
 pub use read::{ReadError, read_script};
-pub use telling::{is_word, tell, tell_bad_script};
+pub use telling::{finish, is_word, tell, tell_bad_script};
 pub use words::{command_words, file_named};

@@ -1,8 +1,8 @@
-ghost use Rattle.std.specs.Prelude.{◌≡◌, ◌≤◌, ◌<◌, ℕ, string_bytes, true, false, length, take};
+ghost use Rattle.std.specs.Prelude.{◌≡◌, ◌≢◌, ◌≤◌, ◌<◌, ℕ, string_bytes, true, false, length, take, Ok};
 ghost use Rattle.std.specs.Str.{bytes_eq};
 ghost use Rattle.wasi_base.specs.Causes.{Rose};
-ghost use Rattle.wasi_base.specs.Sink.{with_more};
-ghost use Rattle.wasi_commands.specs.Telling.{Tells, bad_script_line};
+ghost use Rattle.wasi_base.specs.Sink.{with_more, Flushes};
+ghost use Rattle.wasi_commands.specs.Telling.{Tells, bad_script_line, write_fault_line};
 
 use itoa::Buffer;
 use wasi_base::{Sink, write_all};
@@ -30,6 +30,24 @@ pub fn tell_bad_script<E: Sink>(err: &mut E, number: u64)
         return;
     }
     tell(err, b"\n");
+}
+
+/// Hands on what the output keeps back, and answers the exit status. That is `status`, but 6 where
+/// it was 0 and the output fails, which is told.
+pub fn finish<K: Sink, E: Sink>(status: u8, out: &mut K, err: &mut E) -> u8
+    ensures same { K.taken out.new ≡ K.taken out.old }
+    ensures quiet { result ≡ status → err.new ≡ err.old }
+    ensures failed { result ≢ status → (status ≡ 0) × (result ≡ 6) × Rose (K.faults out.old) (K.faults out.new) × Tells write_fault_line (E.taken err.old) (E.taken err.new) (E.faults err.old) (E.faults err.new) }
+    ensures flushed { status ≡ 0 → result ≡ 0 → Flushes (K.limits out.old) (Ok tt) (K.limits out.new) }
+    ensures unfailed { (Rose (K.faults out.old) (K.faults out.new) → ⊥) → result ≡ status }
+{
+    match out.flush() {
+        Err(_) if status == 0 => {
+            tell(err, b"write fault\n");
+            6
+        }
+        _ => status,
+    }
 }
 
 /// Whether a text is this word.

@@ -2,10 +2,10 @@
 #![tactic(auto)]
 
 use std::alloc::Global;
-use std::io;
+use std::io::{self, BufWriter};
 use std::process::ExitCode;
 use wasi_base::{FileSource, StdSink, StdSource, write_all};
-use wasi_commands::{command_words, file_named};
+use wasi_commands::{command_words, file_named, finish};
 use wasi_pipeline::run_pipeline;
 
 fn run(rt: &HostRuntime, alloc: Global) -> io::Result<u8> {
@@ -13,9 +13,10 @@ fn run(rt: &HostRuntime, alloc: Global) -> io::Result<u8> {
     let path = file_named(alloc, &words)?;
     let mut script = StdSource::new(rt.stdin());
     let mut stdin = FileSource::new(rt, path);
-    let mut out = StdSink::new(rt.stdout());
+    let mut out = StdSink::new(BufWriter::new(alloc, rt.stdout())?);
     let mut err = StdSink::new(rt.stderr());
-    Ok(run_pipeline(alloc, &words, &mut script, &mut stdin, &mut out, &mut err))
+    let status = run_pipeline(alloc, &words, &mut script, &mut stdin, &mut out, &mut err);
+    Ok(finish(status, &mut out, &mut err))
 }
 
 fn main(rt: HostRuntime) -> ExitCode {
