@@ -28,10 +28,9 @@ use Rattle.wasi_streams.specs.MemoryPipes.{OutPipe, with_bytes, pipe_read, check
 use Rattle.wasi_streams.specs.Files.{file_answer, file_read, file_room}
 use Rattle.wasi_streams.specs.Outputs.{Outlet, all_written, after_all_written, write_answer, flush_answer}
 use Rattle.wasi_streams.specs.Reader.{Reader, next_item, item_read, reader_read}
-use Rattle.wasi_streams.specs.Writer.{Writer, permit, told_first, after_told, with_accepted, writer_check_write, after_writer_check_write, writer_write, after_writer_write, writer_flush, after_writer_flush, budget_left}
+use Rattle.wasi_streams.specs.Writer.{Writer, permit, told_first, after_told, with_accepted, writer_check_write, writer_write, writer_flush, budget_left}
 use Rattle.wasi_cli.specs.declared.owner.Owner.{Owner}
 use Rattle.wasi_cli.specs.declared.stdout_handle.StdoutHandle.{StdoutHandle}
-use Rattle.wasi_cli.specs.Turns.{Turn, after_end}
 use Rattle.wasi_cli.specs.Shared.{unless_held, after_unless_held}
 use Rattle.wasi_stdin.specs.Shared.{Shared, Reading, Polling, Skipped, reading_of, skipped as skipped_past, poll_of, wait_after_poll, block_of, wait_after_block}
 use Rattle.wasi_stdin.specs.Shared as stdin
@@ -71,7 +70,7 @@ use Rattle.wasi_host.specs.OutStreams.{output_check_write, after_output_check_wr
 use Rattle.wasi_host.specs.Deeds.{Own, Done, trapped, entry_at, made, may_make, may_change, same_standard, with_kept, act, dropped, dropped_at, apart}
 use Rattle.wasi_host.specs.Clocks.{Clocks}
 use Rattle.wasi_host.specs.Calls.{Settings, asked, called, sent, polled_read, polled_write, polled_flush, reading_told, skipped_told, polling_told, error_told, result_told, poll_told, is_done}
-use Rattle.wasi_host.specs.Host.{Named, Guest, Streams, Host, Answered, the_calls, taken_out, put_back, input_at, put_input, output_at, put_output, settled, left_guest, leave_input, leave_output, leave_entry, leave_all, passed_on, guest_of, answer_at, answer_to, answer_by, answer_in, answer, reply_to, host_after}
+use Rattle.wasi_host.specs.Host.{Named, Guest, Streams, Host, Answered, the_calls, taken_out, put_back, input_at, put_input, output_at, put_output, settled, left_guest, leave_input, leave_output, leave_entry, leave_all, guest_of, answer_at, answer_to, answer_by, answer_in, answer, reply_to, host_after}
 use Rattle.wasi_host.specs.View.{input_names, output_names}
 use Rattle.wasi_host.specs.Traps.{input_but_turn, output_but_turn, input_turn, output_turn, StreamLivesOn, ended_guest, uses_output, StaysWithGuest, StaysWithCaller, number_in, IsRefused}
 use Rattle.wasi_host.specs.laws.Shown.{get_set}
