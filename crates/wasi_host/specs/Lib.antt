@@ -14,5 +14,6 @@ pub mod View
 pub mod Transcript
 pub mod Promises
 pub mod Buffers
+pub mod Traps
 pub mod Codes
 pub mod laws

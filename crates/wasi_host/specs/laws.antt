@@ -12,3 +12,5 @@ pub mod Kept
 pub mod Walk
 pub mod Filled
 pub mod Buffered
+pub mod TurnEnds
+pub mod Traps

@@ -1,5 +1,6 @@
 ghost use Rattle.wasi_host.specs.Promises.{HostRuns, CallsStayInReach, InputsArePutBack, OutputsArePutBack, GuestsAreIsolated, EachIsAlone, OutputsKeep, OutputsFill, TranscriptsFixRuns};
 ghost use Rattle.wasi_host.specs.Buffers.{BuffersKeep};
+ghost use Rattle.wasi_host.specs.Traps.{TrapsStay, DeadNumbersAreRefused, EndsFreeEach};
 ghost use Rattle.wasi_host.specs.Sound.{RunsAreSound, RunsKeepRequests, RunsTellOnce};
 
 use wasi_reply::lines_fix_replies;
@@ -22,6 +23,18 @@ pub fn transcripts_fix_runs()
 /// on that, as they were. What it is on the entry at its number says.
 pub fn calls_stay_in_reach()
     ensures { CallsStayInReach }
+{}
+
+/// A law: a trap or an exit stays with its guest. No byte of a stream changes, neither what an input
+/// has left nor what an output took or has buffered; a turn that the guest had passes to the first of
+/// the others that wait for it, and no other turn passes. The other guests, the shared input and the
+/// clocks are as they were, and the guest owns nothing any more. A number that is not live in its
+/// caller's table is refused, which is such a trap. The turns pass as if the guest's entries were
+/// freed one by one, in any order.
+pub fn traps_stay_with_their_guest()
+    ensures stays { TrapsStay }
+    ensures refused { DeadNumbersAreRefused }
+    ensures turns { EndsFreeEach }
 {}
 
 /// A law: a stream that is put back as it was taken out leaves all streams as they were, and what

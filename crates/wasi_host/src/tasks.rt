@@ -46,6 +46,13 @@ fn undo(turns: &mut Turns, before: Option<Owner>, who: Owner)
     }
 }
 
+// nobody has the turn, and the stream is ready
+fn ready(turns: &Turns, is_ready: bool) -> bool
+    ensures { result ≡ is_ready_in turns.now is_ready }
+{
+    turns.holder().is_none() && is_ready
+}
+
 // asks for the turn, and gives it on where the stream is ready
 fn block(turns: &mut Turns, who: Owner, is_ready: bool) -> Result<bool, OutOfMemory>
     ensures answer { IfOk result (λ over. over ≡ block_in turns.old is_ready who) }
@@ -121,7 +128,8 @@ impl AsyncInput {
         ensures answer { result ≡ is_ready_in self.old.turn (reader_is_ready self.old.stream) }
         ensures same { self.new ≡ self.old }
     {
-        self.turns.holder().is_none() && self.stream.ready()
+        let is_ready = self.stream.ready();
+        ready(&self.turns, is_ready)
     }
 
     /// A block of a pollable, which asks for the turn, and gives it on once the input is ready. Out
@@ -250,7 +258,8 @@ impl BufferedOutput {
         ensures answer { result ≡ is_ready_in self.old.turn (writer_is_ready self.old.stream) }
         ensures same { self.new ≡ self.old }
     {
-        self.turns.holder().is_none() && self.stream.ready()
+        let is_ready = self.stream.ready();
+        ready(&self.turns, is_ready)
     }
 
     /// A block of a pollable, which asks for the turn, and gives it on once the output is ready. Out
