@@ -120,7 +120,7 @@ fn drained(alloc: Global, transcript: &[u8]) -> Result<Vec<u8>, Fail> {
     let mut digits = Vec::new(alloc);
     for reply in Parts::new(transcript, b'\n') {
         if let [b'b', b'y', b't', b'e', b's', b' ', hex @ ..] = reply {
-            if hex != b"-" {
+            if hex != b"-".as_slice() {
                 digits.extend_from_slice(hex)?;
             }
         }

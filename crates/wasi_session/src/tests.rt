@@ -4,7 +4,7 @@ mod clocks;
 mod generated;
 mod tasks;
 
-use crate::{run_program, run_session};
+use crate::{SessionError, run_program, run_session};
 use std::alloc::Global;
 use std::process::Abort;
 use std::test::Fail;
@@ -654,4 +654,29 @@ fn refusals_have_a_status_and_a_line(rt: HostRuntime) -> Result<(), Fail> {
             err: b"write fault\n",
         },
     )
+}
+
+const SAMPLE_TRANSCRIPT: &[u8] =
+    b"ok\nok\nhandle 0\nhandle 0\nbytes -\ncaptured 2\ngave 2\nbytes 61\nbytes 62\n";
+
+// The delivery is the seventh step, and the replies before it have 43 bytes.
+#[test]
+fn a_write_fault_ends_the_run_where_it_comes(rt: HostRuntime) -> Result<(), Fail> {
+    let alloc = rt.alloc();
+    for taken in 0..SAMPLE_TRANSCRIPT.len() {
+        let mut plan = Vec::new(alloc);
+        for _ in 0..taken {
+            plan.push(SinkPlan::Take(1))?;
+        }
+        plan.push(SinkPlan::Fail(IoKind::Other))?;
+        let mut script = CleanSource::new(Vec::from_slice(alloc, SAMPLE)?);
+        let mut stdin = CleanSource::new(Vec::from_slice(alloc, b"abcdef")?);
+        let mut out = MemSink::new(alloc, 1024, plan)?;
+        let answer = run_session(alloc, &mut script, &mut stdin, &mut out);
+        assert!(&rt; answer == Err(SessionError::WriteFault));
+        assert_eq!(&rt; out.taken(), &SAMPLE_TRANSCRIPT[..taken]);
+        let left: &[u8] = if taken < 43 { b"abcdef" } else { b"cdef" };
+        assert_eq!(&rt; stdin.left(), left);
+    }
+    Ok(())
 }
