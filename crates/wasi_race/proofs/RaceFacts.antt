@@ -256,9 +256,9 @@ fitting sizes w a b (e ∷ es) d among hw ha hb =
     let ca = readers_cond sizes.first (nat_eq e.pass a) e (part_of a es) ha in
     let cb = readers_cond sizes.second (nat_eq e.pass b) e (part_of b es) hb in (
       fits_one (nat_eq e.pass w) (nat_eq e.pass a) (nat_eq e.pass b) (Fits sizes (reader_of a e.pass) e.event) among.0
-        (λ t. worker_fits sizes (reader_of a e.pass) e.event (cw.0 t))
-        (λ t. fits_as sizes (reader_of a e.pass) First e.event (is_first a e.pass t) (reader_fits sizes First e.event (ca.0 t)))
-        (λ t. fits_as sizes (reader_of a e.pass) Second e.event (is_second a e.pass (other_pass e.pass a b t d)) (reader_fits sizes Second e.event (cb.0 t))),
+          (λ t. worker_fits sizes (reader_of a e.pass) e.event (cw.0 t))
+          (λ t. fits_as sizes (reader_of a e.pass) First e.event (is_first a e.pass t) (reader_fits sizes First e.event (ca.0 t)))
+          (λ t. fits_as sizes (reader_of a e.pass) Second e.event (is_second a e.pass (other_pass e.pass a b t d)) (reader_fits sizes Second e.event (cb.0 t))),
       fitting sizes w a b es d among.1 cw.1 ca.1 cb.1,
     )
 
@@ -492,11 +492,14 @@ raced sizes start w a b before after faults now h pieces held z joins works done
           let told = works.reads.told t is in
           let u = told_by_rounds t (added_to start w) in
           let f = finished t (added_to start w) works.rounds told.0 r.ends None o last in
-          let kept : brought_in w.entries ++ u.left ≡ brought_in start.entries ++ t.left = law start w before after faults now t u works is told.1 in
-          (u, told.1, record {
-            done = f.done;
-            plan = f.plan;
-            all = ap (λ bs. bs ++ u.left) out ∙ (kept ∙ ap (λ bs. bs ++ t.left) r.brought);
-            ends = f.ends;
-          });
+          let kept : brought_in w.entries ++ u.left ≡ brought_in start.entries ++ t.left = law start w before after faults now t u works is told.1 in (
+            u,
+            told.1,
+            record {
+              done = f.done;
+              plan = f.plan;
+              all = ap (λ bs. bs ++ u.left) out ∙ (kept ∙ ap (λ bs. bs ++ t.left) r.brought);
+              ends = f.ends;
+            },
+          );
     }

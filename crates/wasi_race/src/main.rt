@@ -11,15 +11,14 @@ mod tests;
 mod text;
 mod words;
 
+pub use outcome::{Last, Reader};
+pub use run::run_race;
+pub use spawner::{RefusingSpawner, SpawnRefused, Spawner, Starts, ThreadSpawner};
 use std::alloc::Global;
 use std::io;
 use std::process::ExitCode;
 use wasi_base::{FileSource, StdSink};
 use wasi_commands::{command_words, file_named};
-
-pub use outcome::{Last, Reader};
-pub use run::run_race;
-pub use spawner::{RefusingSpawner, SpawnRefused, Spawner, Starts, ThreadSpawner};
 pub use words::Sizes;
 
 // the words, and the file among them
