@@ -5,7 +5,6 @@ use Rattle.wasi_base.specs.declared.source.Plan.{Plan}
 use Rattle.wasi_base.specs.declared.source.Plan.TheVariants as plan
 use Rattle.wasi_base.specs.Source.{Told, gives, told_after, given_by, told_by}
 use Rattle.wasi_stdin.specs.Shared.{outcome_of}
-use Rattle.wasi_stdin.specs.declared.answer.Outcome.{Outcome}
 use Rattle.wasi_stdin.specs.declared.answer.Outcome.TheVariants as outcome
 use Rattle.wasi_threads.specs.declared.entry.Entry.{Entry}
 use Rattle.wasi_threads.specs.declared.entry.Event.{Event}

@@ -1,34 +1,31 @@
 -- What the three passes of a race come to.
-use Rattle.std.proofs.Common.{◌≡◌, ℕ, ◌+◌, ◌<◌, ◌≤◌, Bool, true, false, ◌||◌, ◌&&◌, not, cond, nat_eq, List, [], ◌∷◌, ◌++◌, length, take, drop, refl, arith, ◌∙◌, sym, ap, subst, Option, Some, None, append_assoc, zero, suc}
+use Rattle.std.proofs.Common.{◌≡◌, ℕ, ◌+◌, ◌<◌, ◌≤◌, Bool, true, false, ◌||◌, ◌&&◌, cond, nat_eq, List, [], ◌∷◌, ◌++◌, length, take, drop, refl, arith, ◌∙◌, sym, ap, subst, Option, Some, None, zero, suc}
 use Rattle.std.proofs.lemmas.Bool.Decides.{nat_tests}
 use Rattle.std.proofs.lemmas.Grind.{common_steps}
-use Rattle.std.specs.Prelude.{set, slice_get, IsSome, IsSomeAnd}
 use Rattle.wasi_base.specs.Causes.{Rose}
 use Rattle.wasi_base.specs.Source.{Told}
 use Rattle.wasi_base.specs.declared.io_kind.IoKind.{IoKind}
 use Rattle.wasi_base.specs.declared.io_kind.IoKind.TheVariants.{BrokenPipe, NotFound, PermissionDenied, IsADirectory, WriteZero, Interrupted, InvalidData, Other}
-use Rattle.wasi_stdin.specs.Shared.{Shared, met_in, after_in, reading, reading_of, after_read, told_fault, bytes_read, asked_by_ready, after_block, after_meeting, is_waiting, capture_of, captured_by}
-use Rattle.wasi_stdin.specs.declared.answer.Outcome.{Outcome}
+use Rattle.wasi_stdin.specs.Shared.{Shared, met_in, after_in, reading, reading_of, after_read, told_fault, bytes_read, after_block, capture_of, captured_by}
 use Rattle.wasi_stdin.specs.declared.answer.Outcome.TheVariants as outcome
 use Rattle.wasi_stdin.specs.declared.mode.Mode.{Mode}
 use Rattle.wasi_stdin.specs.declared.mode.Mode.TheVariants.{Idle, Asked, Held, Failed, Closed}
 use Rattle.wasi_threads.specs.declared.entry.Entry.{Entry}
 use Rattle.wasi_threads.specs.declared.entry.Event.{Event}
 use Rattle.wasi_threads.specs.declared.entry.Event.TheVariants as event
-use Rattle.wasi_threads.specs.declared.entry.Kept.TheVariants as kept
 use Rattle.wasi_threads.specs.Calls.{IsJoined}
 use Rattle.wasi_threads.specs.Collects.{IsWhole, IsCollected, handed_out, out_of, brought_in, DeliveriesKeepTheInput}
-use Rattle.wasi_threads.specs.History.{Standing, IsLegal, AreLegal, MayStand, after_event, after_entry, opening, replayed, is_any, bytes_to}
-use Rattle.wasi_threads.specs.Passes.{Passing, part_of, part_after, is_among, AllAmong, AreParts, has_entry, holders, tick, is_sight, has_sight}
-use Rattle.wasi_threads.specs.Rounds.{AreRounds, AreReadsOf, Worked, added_to, delivery_of, is_given, has_last, has_fault, told_by_rounds}
+use Rattle.wasi_threads.specs.History.{Standing, AreLegal, MayStand, after_event, after_entry, opening, replayed, is_any, bytes_to}
+use Rattle.wasi_threads.specs.Passes.{Passing, part_of, is_among, AllAmong, has_entry, tick, is_sight, has_sight}
+use Rattle.wasi_threads.specs.Rounds.{AreRounds, Worked, added_to, delivery_of, is_given, has_last, has_fault, told_by_rounds}
 use Rattle.wasi_race.specs.declared.outcome.Last.{Last}
 use Rattle.wasi_race.specs.declared.outcome.Last.TheVariants as last
 use Rattle.wasi_race.specs.declared.outcome.Reader.{Reader}
 use Rattle.wasi_race.specs.declared.outcome.Reader.TheVariants.{First, Second}
 use Rattle.wasi_race.specs.declared.words.Sizes.{Sizes}
-use Rattle.wasi_race.specs.History.{Printed, reader_of, piece_of, piece_by, pieces_in, newer, last_by, last_in, last_given, is_readers, AreReaders, IsReader, is_done}
-use Rattle.wasi_race.specs.Races.{joined, size_of, AreShort, IsToldBy, OnFault, IsRaced}
-use Rattle.wasi_race.proofs.PlanFacts.{Finished, finished, ended, fault_delivered}
+use Rattle.wasi_race.specs.History.{Printed, reader_of, piece_of, piece_by, pieces_in, newer, last_by, last_in, is_readers, AreReaders, IsReader, is_done}
+use Rattle.wasi_race.specs.Races.{joined, size_of, AreShort, OnFault, IsRaced}
+use Rattle.wasi_race.proofs.PlanFacts.{finished, ended, fault_delivered}
 
 -- Each entry's pass is one of the three.
 

@@ -1,5 +1,5 @@
 -- What a race prints, and what it does to its source.
-use Rattle.std.specs.Prelude.{◌≡◌, ℕ, ◌≤◌, ◌⊎◌, List, [], ◌∷◌, ◌++◌, length, codes, Option, Some}
+use Rattle.std.specs.Prelude.{◌≡◌, ℕ, ◌≤◌, List, [], ◌∷◌, ◌++◌, length, codes, Option, Some}
 use Rattle.hex.specs.Hex.{encode_lower}
 use Rattle.wasi_base.specs.Causes.{Rose}
 use Rattle.wasi_base.specs.IoKind.{kind_name}

@@ -1,5 +1,4 @@
 -- Why a race did not come to its end.
-use Rattle.std.specs.Prelude.{ℕ}
 use Rattle.wasi_race.specs.declared.race.RaceError.{RaceError}
 use Rattle.wasi_race.specs.declared.race.RaceError.TheVariants.{SpawnFault, Mismatch, OutOfMemory}
 
