@@ -1,0 +1,4 @@
+pub mod ReaderFacts
+pub mod TextFacts
+pub mod PlanFacts
+pub mod RaceFacts
