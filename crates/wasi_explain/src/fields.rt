@@ -36,6 +36,11 @@ pub enum Field {
     Room,
     Budget,
     Capacity,
+    RandomSource,
+    /// One byte at least, which a random source gives again and again.
+    RepeatedBytes,
+    /// A number of 128 bits.
+    Seed,
     ExitStatus,
     ExitCode,
 }
@@ -61,6 +66,9 @@ impl Field {
             Field::Room => check_number(word, 0, MOST_BYTES),
             Field::Budget => check_number(word, 1, MOST_BYTES),
             Field::Capacity => check_number(word, 1, 65536),
+            Field::RandomSource => check_random_source(word),
+            Field::RepeatedBytes => check_repeated_bytes(word),
+            Field::Seed => check_seed(word),
             Field::ExitStatus => check_status(word),
             Field::ExitCode => check_number(word, 0, 255),
         }
@@ -197,6 +205,40 @@ fn check_status(word: &[u8]) -> Result<(), Reason> {
     match word {
         b"ok" | b"err" => Ok(()),
         _ => Err(Reason::BadStatus),
+    }
+}
+
+fn check_random_source(word: &[u8]) -> Result<(), Reason> {
+    match word {
+        b"secure" | b"insecure" => Ok(()),
+        _ => Err(Reason::BadSource),
+    }
+}
+
+fn check_repeated_bytes(word: &[u8]) -> Result<(), Reason> {
+    if word == b"-".as_slice() {
+        return Err(Reason::NoBytes);
+    }
+    check_bytes(word)
+}
+
+fn check_seed(word: &[u8]) -> Result<(), Reason> {
+    if word.is_empty() || !word.iter().all(|byte| byte.is_ascii_digit()) {
+        return Err(Reason::NotANumber);
+    }
+    if word.len() > 39 {
+        return Err(Reason::TooManySeedDigits);
+    }
+    match wide_decimal(word) {
+        Some(_) => Ok(()),
+        None => Err(Reason::SeedOutOfRange),
+    }
+}
+
+fn wide_decimal(digits: &[u8]) -> Option<u128> {
+    match std::str::from_utf8(digits) {
+        Ok(digits) => digits.parse().ok(),
+        Err(_) => None,
     }
 }
 

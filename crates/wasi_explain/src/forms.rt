@@ -22,6 +22,10 @@ pub fn line_fields(word: &[u8]) -> Option<&'static [Field]> {
         b"guest" => Some(&[Field::NewGuest, Field::Input]),
         b"stdout" | b"stderr" => Some(&[Field::Configured, Field::Output]),
         b"capacity" => Some(&[Field::Configured, Field::Capacity]),
+        b"random" => Some(&[Field::Configured, Field::RandomSource, Field::RepeatedBytes]),
+        b"seeded" => Some(&[Field::Configured, Field::RandomSource, Field::Number]),
+        b"seed" => Some(&[Field::Configured, Field::Seed]),
+        b"maxrandom" => Some(&[Field::Configured, Field::Number]),
         b"call" => Some(&[Field::Caller]),
         b"capture" | b"deliver" | b"turn" | b"clock" => Some(&[]),
         _ => None,
@@ -37,12 +41,22 @@ pub fn call_fields(name: &[u8]) -> Option<&'static [Field]> {
         b"write" | b"poll-write" => Some(&[Field::Number, Field::Bytes]),
         b"check-write" | b"flush" | b"poll-flush" => Some(&[Field::Number]),
         b"subscribe" | b"ready" | b"block" | b"drop" => Some(&[Field::Number]),
+        b"exit" => Some(&[Field::ExitStatus]),
+        b"exit-code" => Some(&[Field::ExitCode]),
+        _ => source_fields(name),
+    }
+}
+
+// the same of a call on the clocks or the random sources
+fn source_fields(name: &[u8]) -> Option<&'static [Field]> {
+    match name {
         b"wall-now" | b"wall-resolution" | b"system-now" | b"system-resolution" => Some(&[]),
         b"mono-now" | b"mono-resolution" => Some(&[]),
         b"subscribe-instant" | b"subscribe-duration" => Some(&[Field::Number]),
         b"wait-until" | b"wait-for" => Some(&[Field::Number]),
-        b"exit" => Some(&[Field::ExitStatus]),
-        b"exit-code" => Some(&[Field::ExitCode]),
+        b"random-bytes" | b"insecure-bytes" => Some(&[Field::Number]),
+        b"p3-random-bytes" | b"p3-insecure-bytes" => Some(&[Field::Number]),
+        b"random-u64" | b"insecure-u64" | b"insecure-seed" => Some(&[]),
         _ => None,
     }
 }

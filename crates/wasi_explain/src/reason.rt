@@ -29,6 +29,14 @@ pub enum Reason {
     TooManyDigits,
     #[error("number out of range: {least} to {most}")]
     OutOfRange { least: u64, most: u64 },
+    #[error("number of more than 39 digits")]
+    TooManySeedDigits,
+    #[error("number out of range: 0 to 340282366920938463463374607431768211455")]
+    SeedOutOfRange,
+    #[error("neither secure nor insecure")]
+    BadSource,
+    #[error("no bytes")]
+    NoBytes,
     #[error("bad name: not an upper-case letter and then at most 31 letters, digits or _")]
     BadName,
     #[error("bad hexadecimal: not a digit")]

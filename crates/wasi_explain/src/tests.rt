@@ -401,3 +401,35 @@ fn clocks(rt: HostRuntime) -> Result<(), Fail> {
     let before = "clock wall 18446744073709551615 999999999\nguest 0 empty\n";
     check_lines(&rt, rt.alloc(), before, &bad_lines)
 }
+
+#[test]
+fn random_sources(rt: HostRuntime) -> Result<(), Fail> {
+    let number = Reason::OutOfRange {
+        least: 0,
+        most: u64::MAX,
+    };
+    let greatest = "seed 0 340282366920938463463374607431768211456";
+    let bad_lines = [
+        ("random 1 secure 00", 8, Reason::UnknownGuest),
+        ("random 0 safe 00", 10, Reason::BadSource),
+        ("random 0 secure -", 17, Reason::NoBytes),
+        ("random 0 secure 0", 17, Reason::OddDigits),
+        ("random 0 secure", 16, Reason::MissingWord),
+        ("seeded 0 insecure 18446744073709551616", 19, number),
+        ("seeded 2 secure 1", 8, Reason::AfterFirstCall),
+        (greatest, 8, Reason::SeedOutOfRange),
+        (
+            "seed 0 0000000000000000000000000000000000000001",
+            8,
+            Reason::TooManySeedDigits,
+        ),
+        ("seed 0 -1", 8, Reason::NotANumber),
+        ("maxrandom 0 1 2", 15, Reason::ExtraWord),
+        ("call 0 random-bytes", 20, Reason::MissingWord),
+        ("call 0 p3-insecure-bytes x", 26, Reason::NotANumber),
+        ("call 0 random-u64 1", 19, Reason::ExtraWord),
+    ];
+    let before =
+        "guest 0 empty\nguest 2 empty\nseed 0 340282366920938463463374607431768211455\nrandom 0 secure 4*00\ncall 2 insecure-seed\n";
+    check_lines(&rt, rt.alloc(), before, &bad_lines)
+}

@@ -8,17 +8,18 @@ use Rattle.wasi_host.specs.declared.stream.InStream.{InStream}
 use Rattle.wasi_host.specs.declared.stream.OutStream.{OutStream}
 use Rattle.wasi_host.specs.Deeds.{Own}
 use Rattle.wasi_host.specs.Clocks.{Clocks}
+use Rattle.wasi_host.specs.Random.{Sources}
 use Rattle.wasi_host.specs.Calls.{Settings}
 use Rattle.wasi_host.specs.Host.{Named, Guest, Streams, Host}
 
 abbrev pub own_code : Coded Entry → Coded Own
 own_code entry = code_by (Table Entry) (table_code entry) (λ o. o.table) (λ t. record { table = t }) (λ _. refl)
 
-abbrev pub guest_code : Coded Settings → Coded Own → Coded Guest
-guest_code settings own =
-    code_by ((Settings × Own) × (Bool × Bool)) (coded× (coded× settings own) (coded× coded_bool coded_bool))
-    (λ g. ((g.settings, g.own), (g.was_called, g.ended)))
-    (λ p. record { settings = p.0.0; own = p.0.1; was_called = p.1.0; ended = p.1.1 }) (λ _. refl)
+abbrev pub guest_code : Coded Settings → Coded Own → Coded Sources → Coded Guest
+guest_code settings own sources =
+    code_by ((Settings × Own) × (Sources × (Bool × Bool))) (coded× (coded× settings own) (coded× sources (coded× coded_bool coded_bool)))
+    (λ g. ((g.settings, g.own), (g.sources, (g.was_called, g.ended))))
+    (λ p. record { settings = p.0.0; own = p.0.1; sources = p.1.0; was_called = p.1.1.0; ended = p.1.1.1 }) (λ _. refl)
 
 abbrev pub named_code : {A : Type 0} → Coded A → Coded (Named A)
 named_code it = coded_list (coded× (coded_list coded_ℕ) it)

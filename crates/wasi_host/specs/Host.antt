@@ -29,6 +29,7 @@ use Rattle.wasi_script.specs.declared.lines.Setting.{Setting}
 use Rattle.wasi_script.specs.declared.lines.Setting.TheVariants as setting
 use Rattle.wasi_script.specs.declared.lines.EntryCall.{EntryCall}
 use Rattle.wasi_script.specs.declared.lines.OwnCall.{OwnCall}
+use Rattle.wasi_script.specs.declared.lines.RandomCall.{RandomCall}
 use Rattle.wasi_script.specs.declared.lines.Call.{Call}
 use Rattle.wasi_script.specs.declared.lines.Call.TheVariants as call
 use Rattle.wasi_script.specs.declared.lines.WorkerTurn.{WorkerTurn}
@@ -60,26 +61,35 @@ use Rattle.wasi_host.specs.declared.leaver.Leaver.TheVariants as leaver
 use Rattle.wasi_host.specs.Turns.{untaken}
 use Rattle.wasi_host.specs.InStreams.{input_without}
 use Rattle.wasi_host.specs.OutStreams.{output_without}
-use Rattle.wasi_host.specs.Deeds.{Own, Done, trapped, entry_at, act, dropped, apart}
+use Rattle.wasi_host.specs.Deeds.{Own, Done, only_told, trapped, entry_at, act, dropped, apart}
 use Rattle.wasi_host.specs.Tasks.{Turned, input_turned, output_turned}
 use Rattle.wasi_host.specs.Clocks.{Clocks, new_clocks, clocks_after}
+use Rattle.wasi_random.specs.Known.{of_bytes, of_number}
+use Rattle.wasi_host.specs.Random.{Sources, Drawn, new_sources, with_source, drawn}
 use Rattle.wasi_host.specs.Calls.{Settings, Owner, Doing, opened, asked, called, sent, awaited, owned}
 
--- a guest: what configuration lines say of it, what it owns, and whether it was called and whether it ended
+-- a guest: what configuration lines say of it, what it owns, its random sources, and whether it was called and whether
+-- it ended
 pub record Guest : Type 0 where
   pub settings : Settings
   pub own : Own
+  pub sources : Sources
   pub was_called : Bool
   pub ended : Bool
 
--- a guest has room for 1024 entries, and its outputs go nowhere, unless lines say otherwise
+-- a guest has room for 1024 entries, its outputs go nowhere, it may ask for 67108864 random bytes at a time, and its seed
+-- for insecure uses is 0, unless lines say otherwise
 abbrev pub new_guest : Input → Guest
-new_guest input = record { settings = record { input = input; stdout = output.Empty; stderr = output.Empty }; own = record { table = new_table 1024 }; was_called = false; ended = false }
+new_guest input = record { settings = record { input = input; stdout = output.Empty; stderr = output.Empty; insecure_seed = 0; most_random = 67108864 }; own = record { table = new_table 1024 }; sources = new_sources; was_called = false; ended = false }
 
 abbrev pub configured : Setting → Guest → Guest
 configured (setting.Stdout it) guest = record guest { settings = record guest.settings { stdout = it } }
 configured (setting.Stderr it) guest = record guest { settings = record guest.settings { stderr = it } }
 configured (setting.Capacity capacity) guest = record guest { own = record { table = new_table capacity } }
+configured (setting.Random from bytes) guest = record guest { sources = with_source from (of_bytes bytes) guest.sources }
+configured (setting.Seeded from seed) guest = record guest { sources = with_source from (of_number seed) guest.sources }
+configured (setting.InsecureSeed seed) guest = record guest { settings = record guest.settings { insecure_seed = seed } }
+configured (setting.MaxRandom size) guest = record guest { settings = record guest.settings { most_random = size } }
 
 -- ---- the declared streams with their names, each list in order of declaration
 abbrev pub Named : Type 0 → Type 0
@@ -173,6 +183,7 @@ pub record CallRules : Type 0 where
   pub sent : EntryCall → Standard → Owner → StreamEntry → OutStream → Doing OutStream
   pub awaited : EntryCall → Owner → OwnEntry → Deed
   pub owned : OwnCall → Settings → Own → Deed
+  pub drawn : RandomCall → Settings → Sources → Drawn
 
 -- those of calls, by what the clocks read, and those of the turns of tasks
 pub record Rules : Type 0 where
@@ -181,7 +192,7 @@ pub record Rules : Type 0 where
   pub written_behind : OutStream → Turned OutStream
 
 abbrev pub the_calls : Clocks → CallRules
-the_calls clocks = record { asked = asked; called = called; sent = sent; awaited = awaited clocks; owned = owned clocks }
+the_calls clocks = record { asked = asked; called = called; sent = sent; awaited = awaited clocks; owned = owned clocks; drawn = drawn }
 
 abbrev pub the_rules : Rules
 the_rules = record { calls = the_calls; read_ahead = input_turned; written_behind = output_turned }
@@ -205,12 +216,17 @@ answer_at rules it at (Some (entry.Stream standard.Output on)) guest shared stre
 answer_at rules it at (Some (entry.Stream standard.Error on)) guest shared streams = on_output (rules.sent it standard.Error at on (output_at guest.settings.stderr streams)) guest.settings.stderr guest shared streams
 answer_at rules it at (Some (entry.Own on)) guest shared streams = settled guest (act (apart (rules.awaited it at on)) guest.own) shared streams
 
+-- a call on the guest's random sources: its entries stay as they are
+abbrev pub on_sources : Drawn → Guest → Shared → Streams → Answered
+on_sources it guest shared streams = settled (record guest { sources = it.left }) (only_told it.told guest.own) shared streams
+
 -- by the kind of the call
 abbrev pub answer_to : CallRules → Call → ℕ → Guest → Shared → Streams → Answered
 answer_to rules (call.Open it how) g guest shared streams = settled guest (act (Make (opened guest.settings.input it how) None) guest.own) shared streams
 answer_to rules (call.On number it) g guest shared streams = answer_at rules it (record { guest = g; number = number }) (entry_at guest.own number) guest shared streams
 answer_to rules (call.Drop number) g guest shared streams = settled guest (dropped number guest.own) shared (leave_entry (leaver.Entry (record { guest = g; number = number })) (entry_at guest.own number) guest.settings streams)
 answer_to rules (call.Own it) g guest shared streams = settled guest (act (apart (rules.owned it guest.settings guest.own)) guest.own) shared streams
+answer_to rules (call.Random it) g guest shared streams = on_sources (rules.drawn it guest.settings guest.sources) guest shared streams
 
 -- a guest that its reply ends passes its turns on
 abbrev pub left_streams : Reply → ℕ → Settings → Streams → Streams

@@ -13,6 +13,7 @@ pub mod Sound
 pub mod View
 pub mod Transcript
 pub mod Promises
+pub mod Random
 pub mod Buffers
 pub mod Traps
 pub mod Codes

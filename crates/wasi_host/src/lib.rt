@@ -8,6 +8,7 @@ mod entry;
 mod laws;
 mod leaver;
 mod outlet;
+mod random;
 mod settings;
 mod stream;
 mod tasks;
@@ -22,6 +23,7 @@ pub use laws::{
 };
 pub use leaver::Leaver;
 pub use outlet::{FileOutput, ProcessOutput};
+pub use random::Sources;
 pub use settings::Settings;
 pub use stream::{FileInput, InStream, OutStream};
 pub use tasks::{AsyncInput, BufferedOutput};

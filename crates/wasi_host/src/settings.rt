@@ -6,4 +6,8 @@ pub struct Settings {
     pub input: Input,
     pub stdout: Output,
     pub stderr: Output,
+    /// The seed for its insecure uses of random numbers.
+    pub insecure_seed: u128,
+    /// The most random bytes that it may ask for at a time.
+    pub most_random: u64,
 }

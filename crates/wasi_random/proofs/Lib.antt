@@ -1,2 +1,3 @@
 pub mod CycleFacts
 pub mod DrawFacts
+pub mod KnownFacts

@@ -1,4 +1,5 @@
 pub mod Cycle
 pub mod Draws
 pub mod Generators
+pub mod Known
 pub mod Refused

@@ -6,6 +6,7 @@ mod bytes;
 mod context;
 mod deterministic;
 mod generator;
+mod known;
 #[cfg(test)]
 mod tests;
 
@@ -13,3 +14,4 @@ pub use bytes::{RandomBytes, RandomRefused};
 pub use context::{DEFAULT_MAX_SIZE, WasiRandomCtx};
 pub use deterministic::Deterministic;
 pub use generator::{Generator, HostRng, seeded_rng, thread_rng};
+pub use known::{KnownGenerator, known_draws_are_of_the_stream};

@@ -73,6 +73,7 @@ rows =
     ∷ alone (codes "true") (reply.Told (told.Truth true))
     ∷ alone (codes "false") (reply.Told (told.Truth false))
     ∷ numbers (codes "time") (λ seconds nanoseconds. reply.Told (told.Time seconds nanoseconds))
+    ∷ numbers (codes "seed") (λ low high. reply.Told (told.Seed low high))
     ∷ alone (codes "pending") (reply.Told told.Pending)
     ∷ alone (codes "closed") (reply.Told told.Closed)
     ∷ kind (codes "failed") (λ kind. reply.Told (told.Failed kind))

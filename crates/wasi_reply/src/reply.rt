@@ -16,6 +16,8 @@ pub enum Told {
     Truth(bool),
     /// What a wall clock reads, or its resolution: whole seconds, and nanoseconds on top of them.
     Time { seconds: u64, nanoseconds: u32 },
+    /// The seed for a guest's insecure uses: its low 64 bits, and its high ones.
+    Seed { low: u64, high: u64 },
     /// Not before the next delivery.
     Pending,
     /// The stream is at its end.

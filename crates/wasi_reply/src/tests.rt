@@ -27,6 +27,10 @@ fn calls_reply(rt: HostRuntime) -> Result<(), Fail> {
             seconds: 18446744073709551615,
             nanoseconds: 999999999,
         }),
+        Reply::Told(Told::Seed {
+            low: 18446744073709551615,
+            high: 0,
+        }),
         Reply::Told(Told::Pending),
         Reply::Told(Told::Closed),
         Reply::Told(Told::Failed(IoKind::BrokenPipe)),
@@ -41,7 +45,7 @@ fn calls_reply(rt: HostRuntime) -> Result<(), Fail> {
     let text = text_of(alloc, &replies)?;
     assert_eq!(rt;
         text.as_slice(),
-        b"handle 4294967295\nok\nbytes 009fff\nbytes -\ncount 18446744073709551615\ntrue\nfalse\ntime 18446744073709551615 999999999\npending\nclosed\nfailed brokenpipe\ntrap resource not present\ntrap requested len 65 exceeds limit 64\nexit 255\nended\n".as_slice()
+        b"handle 4294967295\nok\nbytes 009fff\nbytes -\ncount 18446744073709551615\ntrue\nfalse\ntime 18446744073709551615 999999999\nseed 18446744073709551615 0\npending\nclosed\nfailed brokenpipe\ntrap resource not present\ntrap requested len 65 exceeds limit 64\nexit 255\nended\n".as_slice()
     );
     Ok(())
 }

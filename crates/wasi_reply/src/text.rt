@@ -109,6 +109,7 @@ fn push_told(alloc: Global, text: &mut Vec<u8>, told: &Told) -> Result<(), OutOf
             seconds,
             nanoseconds,
         } => push_numbers(text, b"time", *seconds, u64::from(*nanoseconds)),
+        Told::Seed { low, high } => push_numbers(text, b"seed", *low, *high),
         Told::Pending => push_word(text, b"pending"),
         Told::Closed => push_word(text, b"closed"),
         Told::Failed(kind) => push_kind(text, b"failed", *kind),

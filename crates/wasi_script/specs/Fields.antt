@@ -1,6 +1,6 @@
 -- The fields of lines that are numbers.
 use Rattle.std.specs.Prelude.{ℕ, List, Option}
-pub use Rattle.wasi_words.specs.Fields.{words_of, number_of, number_between, is_at_end, only_field, with_first, with_last}
+pub use Rattle.wasi_words.specs.Fields.{words_of, number_of, u128_of, number_between, is_at_end, only_field, with_first, with_last}
 
 abbrev pub guest_of : List ℕ → Option ℕ
 guest_of = number_between 0 63

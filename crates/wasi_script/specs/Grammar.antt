@@ -4,7 +4,7 @@ use Rattle.std.specs.List.{list_any}
 use Rattle.std.specs.Option.{option_map}
 use Rattle.std.specs.Str.{bytes_eq}
 pub use Rattle.wasi_words.specs.Fields.{Form, meaning_by, lines_of}
-use Rattle.wasi_script.specs.Fields.{words_of, guest_of, number_of, capacity_of, room_of, budget_of, exit_code_of, is_at_end, with_first, with_last, two_fields}
+use Rattle.wasi_script.specs.Fields.{words_of, guest_of, number_of, u128_of, capacity_of, room_of, budget_of, exit_code_of, is_at_end, with_first, with_last, two_fields}
 use Rattle.wasi_script.specs.Name.{name_of}
 use Rattle.wasi_script.specs.Times.{time_of}
 use Rattle.wasi_script.specs.Bytes.{byte_string_of, declared_bytes_of}
@@ -19,6 +19,8 @@ use Rattle.wasi_script.specs.declared.lines.OutputDeclaration.{OutputDeclaration
 use Rattle.wasi_script.specs.declared.lines.OutputDeclaration.TheVariants as output_declaration
 use Rattle.wasi_script.specs.declared.lines.Setting.{Setting}
 use Rattle.wasi_script.specs.declared.lines.Setting.TheVariants as setting
+use Rattle.wasi_script.specs.declared.lines.RandomSource.{RandomSource}
+use Rattle.wasi_script.specs.declared.lines.RandomSource.TheVariants as source
 use Rattle.wasi_script.specs.declared.lines.WorkerTurn.TheVariants as turn
 use Rattle.wasi_script.specs.declared.lines.StreamTask.{StreamTask}
 use Rattle.wasi_script.specs.declared.lines.StreamTask.TheVariants as task
@@ -31,6 +33,8 @@ use Rattle.wasi_script.specs.declared.lines.EntryCall.{EntryCall}
 use Rattle.wasi_script.specs.declared.lines.EntryCall.TheVariants as on
 use Rattle.wasi_script.specs.declared.lines.ClockCall.{ClockCall}
 use Rattle.wasi_script.specs.declared.lines.ClockCall.TheVariants as clock
+use Rattle.wasi_script.specs.declared.lines.RandomCall.{RandomCall}
+use Rattle.wasi_script.specs.declared.lines.RandomCall.TheVariants as random
 use Rattle.wasi_script.specs.declared.lines.OwnCall.TheVariants as own
 use Rattle.wasi_script.specs.declared.lines.Call.{Call}
 use Rattle.wasi_script.specs.declared.lines.Call.TheVariants as call
@@ -62,7 +66,7 @@ output_of word =
 abbrev pub exit_of : List ℕ → Option ExitStatus
 exit_of word = cond (bytes_eq word (codes "ok")) (Some exit.Ok) (cond (bytes_eq word (codes "err")) (Some exit.Err) None)
 
--- the calls that open a standard stream, those on an entry, those on the clocks, and the others
+-- the calls that open a standard stream, those on an entry, those on the clocks and on the random sources, and the others
 abbrev pub open_calls : List (Form Call)
 open_calls =
     (codes "get-stdin", without_fields (call.Open standard.Input access.Plain))
@@ -123,8 +127,26 @@ clock_calls =
     ∷ (codes "wait-for", on_clocks_with clock.WaitFor)
     ∷ []
 
+-- a call on the random sources, without fields and with a number
+abbrev pub on_random : RandomCall → List (List ℕ) → Option Call
+on_random it = without_fields (call.Random it)
+
+abbrev pub on_random_with : (ℕ → RandomCall) → List (List ℕ) → Option Call
+on_random_with it = with_last number_of (λ number. call.Random (it number))
+
+abbrev pub random_calls : List (Form Call)
+random_calls =
+    (codes "random-bytes", on_random_with (random.Bytes source.Secure))
+    ∷ (codes "insecure-bytes", on_random_with (random.Bytes source.Insecure))
+    ∷ (codes "p3-random-bytes", on_random_with (random.BytesUpTo source.Secure))
+    ∷ (codes "p3-insecure-bytes", on_random_with (random.BytesUpTo source.Insecure))
+    ∷ (codes "random-u64", on_random (random.Number source.Secure))
+    ∷ (codes "insecure-u64", on_random (random.Number source.Insecure))
+    ∷ (codes "insecure-seed", on_random random.InsecureSeed)
+    ∷ []
+
 abbrev pub call_of : List (List ℕ) → Option Call
-call_of = meaning_by (open_calls ++ (entry_calls ++ (other_calls ++ clock_calls)))
+call_of = meaning_by (open_calls ++ (entry_calls ++ (other_calls ++ (clock_calls ++ random_calls))))
 
 -- the steps' fields
 abbrev pub pipe_of : List (List ℕ) → Option Line
@@ -156,6 +178,13 @@ guest_line_of = with_first guest_of (λ guest. with_last input_of (line.Guest gu
 -- a guest, and a setting of it
 abbrev pub setting_of : {A : Type 0} → (List ℕ → Option A) → (A → Setting) → List (List ℕ) → Option Line
 setting_of field it fields = option_map (λ both. line.Configure both.0 (it both.1)) (two_fields guest_of field fields)
+
+-- a random source of a guest, and what it is set to
+abbrev pub source_of_word : List ℕ → Option RandomSource
+source_of_word word = cond (bytes_eq word (codes "secure")) (Some source.Secure) (cond (bytes_eq word (codes "insecure")) (Some source.Insecure) None)
+
+abbrev pub source_set : {A : Type 0} → (List ℕ → Option A) → (RandomSource → A → Setting) → List (List ℕ) → Option Line
+source_set field it = with_first guest_of (λ guest. with_first source_of_word (λ from. with_last field (λ value. line.Configure guest (it from value))))
 
 abbrev pub call_line_of : List (List ℕ) → Option Line
 call_line_of = with_first guest_of (λ guest fields. option_map (line.Call guest) (call_of fields))
@@ -200,6 +229,10 @@ other_lines =
     ∷ (codes "stdout", setting_of output_of setting.Stdout)
     ∷ (codes "stderr", setting_of output_of setting.Stderr)
     ∷ (codes "capacity", setting_of capacity_of setting.Capacity)
+    ∷ (codes "random", source_set byte_string_of setting.Random)
+    ∷ (codes "seeded", source_set number_of setting.Seeded)
+    ∷ (codes "seed", setting_of u128_of setting.InsecureSeed)
+    ∷ (codes "maxrandom", setting_of number_of setting.MaxRandom)
     ∷ (codes "capture", without_fields (line.Worker turn.Capture))
     ∷ (codes "deliver", without_fields (line.Worker turn.Deliver))
     ∷ (codes "turn", turn_of)
@@ -260,6 +293,8 @@ abbrev pub setting_stands : Names → Setting → Bool
 setting_stands names (setting.Stdout it) = output_stands names it
 setting_stands names (setting.Stderr it) = output_stands names it
 setting_stands names (setting.Capacity capacity) = nat_le 1 capacity && nat_le capacity 65536
+setting_stands names (setting.Random from bytes) = nat_le 1 (length bytes)
+setting_stands names other = true
 
 -- a buffered output's budget is one byte at least
 abbrev pub budget_stands : OutputDeclaration → Bool

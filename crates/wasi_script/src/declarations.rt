@@ -83,6 +83,8 @@ pub trait Declared {
         match setting {
             Setting::Stdout(output) | Setting::Stderr(output) => self.allow_output(output),
             Setting::Capacity(capacity) => 1 <= *capacity && *capacity <= 65536,
+            Setting::Random { source: _, bytes } => 1 <= bytes.len(),
+            Setting::Seeded { .. } | Setting::InsecureSeed(_) | Setting::MaxRandom(_) => true,
         }
     }
 

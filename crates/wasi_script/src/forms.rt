@@ -1,16 +1,19 @@
 ghost use Rattle.std.specs.Prelude.{◌≡◌, ◌∷◌, ◌++◌, IfOk};
-ghost use Rattle.wasi_script.specs.Grammar.{meaning_by, without_fields, entry_calls, other_calls, clock_calls, clock_settings, on_clocks, other_lines, call_of, line_of, pipe_of, source_fields, out_pipe_of, sink_fields, buffered_of, turn_of, clock_of, guest_line_of, call_line_of, on_number as on_number_of, reading_of, exit_of, input_of, output_of};
-ghost use Rattle.wasi_script.specs.Fields.{two_fields, guest_of, number_of, capacity_of};
+ghost use Rattle.wasi_script.specs.Grammar.{meaning_by, without_fields, entry_calls, other_calls, clock_calls, random_calls, clock_settings, on_clocks, on_random, source_of_word, source_set, other_lines, call_of, line_of, pipe_of, source_fields, out_pipe_of, sink_fields, buffered_of, turn_of, clock_of, guest_line_of, call_line_of, on_number as on_number_of, reading_of, exit_of, input_of, output_of};
+ghost use Rattle.wasi_script.specs.Fields.{two_fields, guest_of, number_of, u128_of, capacity_of};
+ghost use Rattle.wasi_script.specs.declared.lines.Setting.TheVariants as setting;
 ghost use Rattle.wasi_script.specs.Bytes.{byte_string_of};
 ghost use Rattle.wasi_script.specs.declared.lines.Call.TheVariants as call;
 ghost use Rattle.wasi_script.specs.declared.lines.OwnCall.TheVariants as own;
+ghost use Rattle.wasi_script.specs.declared.lines.RandomCall.TheVariants as random;
 ghost use Rattle.wasi_script.specs.declared.lines.Line.TheVariants as line;
 ghost use Rattle.wasi_script.specs.Reads.{Reads};
 
 use crate::bytes::ByteString;
 use crate::lines::{
     Access, Call, ClockCall, ClockSetting, EntryCall, ExitStatus, Input, InputDeclaration, Line,
-    Output, OutputDeclaration, OwnCall, Setting, Standard, StreamTask, WorkerTurn,
+    Output, OutputDeclaration, OwnCall, RandomCall, RandomSource, Setting, Standard, StreamTask,
+    WorkerTurn,
 };
 use crate::name::Name;
 use crate::numbers::{parse_budget, parse_capacity, parse_exit_code, parse_guest, parse_room};
@@ -19,7 +22,7 @@ use crate::refusal::Refusal;
 use crate::times::parse_time;
 use std::alloc::Global;
 use wasi_base::OutOfMemory;
-use wasi_words::{Parts, is, is_done, only, parse_number};
+use wasi_words::{Parts, is, is_done, only, parse_number, parse_u128};
 
 /// What a line of text is.
 #[derive(Drop)]
@@ -88,6 +91,16 @@ fn parse_other_line(alloc: Global, word: &[u8], words: Parts) -> Result<Line, Re
     } else if is(word, b"capacity") {
         let (guest, capacity) = guest_and_capacity(words).ok_or(Refusal::Invalid)?;
         Ok(configure(guest, Setting::Capacity(capacity)))
+    } else if is(word, b"random") {
+        parse_random_line(alloc, words)
+    } else if is(word, b"seeded") {
+        parse_seeded_line(words).ok_or(Refusal::Invalid)
+    } else if is(word, b"seed") {
+        let (guest, seed) = guest_and_seed(words).ok_or(Refusal::Invalid)?;
+        Ok(configure(guest, Setting::InsecureSeed(seed)))
+    } else if is(word, b"maxrandom") {
+        let (guest, size) = guest_and_number(words).ok_or(Refusal::Invalid)?;
+        Ok(configure(guest, Setting::MaxRandom(size)))
     } else if is(word, b"capture") {
         worker(words, WorkerTurn::Capture)
     } else if is(word, b"deliver") {
@@ -241,6 +254,54 @@ fn guest_and_capacity(mut words: Parts) -> Option<(u32, u32)>
     Some((guest, capacity))
 }
 
+fn guest_and_seed(mut words: Parts) -> Option<(u32, u128)>
+    ensures { result ≡ two_fields guest_of u128_of words.entry }
+{
+    let guest = parse_guest(words.next()?)?;
+    let seed = parse_u128(only(words)?)?;
+    Some((guest, seed))
+}
+
+fn guest_and_number(mut words: Parts) -> Option<(u32, u64)>
+    ensures { result ≡ two_fields guest_of number_of words.entry }
+{
+    let guest = parse_guest(words.next()?)?;
+    let number = parse_number(only(words)?)?;
+    Some((guest, number))
+}
+
+fn parse_random_line(alloc: Global, mut words: Parts) -> Result<Line, Refusal>
+    ensures { Reads result (source_set byte_string_of setting.Random words.entry) }
+{
+    let word = words.next().ok_or(Refusal::Invalid)?;
+    let guest = parse_guest(word).ok_or(Refusal::Invalid)?;
+    let word = words.next().ok_or(Refusal::Invalid)?;
+    let source = parse_source(word).ok_or(Refusal::Invalid)?;
+    let bytes = ByteString::read(alloc, only(words).ok_or(Refusal::Invalid)?)?;
+    Ok(configure(guest, Setting::Random { source, bytes }))
+}
+
+fn parse_seeded_line(mut words: Parts) -> Option<Line>
+    ensures { result ≡ source_set number_of setting.Seeded words.entry }
+{
+    let guest = parse_guest(words.next()?)?;
+    let source = parse_source(words.next()?)?;
+    let seed = parse_number(only(words)?)?;
+    Some(configure(guest, Setting::Seeded { source, seed }))
+}
+
+fn parse_source(word: &[u8]) -> Option<RandomSource>
+    ensures { result ≡ source_of_word word.now }
+{
+    if is(word, b"secure") {
+        Some(RandomSource::Secure)
+    } else if is(word, b"insecure") {
+        Some(RandomSource::Insecure)
+    } else {
+        None
+    }
+}
+
 fn parse_call_line(alloc: Global, mut words: Parts) -> Result<Line, Refusal>
     ensures { Reads result (call_line_of words.entry) }
 {
@@ -282,7 +343,7 @@ fn open(words: Parts, stream: Standard, access: Access) -> Result<Call, Refusal>
 
 // a call on the entry of a number, or another one
 fn parse_entry_call(alloc: Global, name: &[u8], words: Parts) -> Result<Call, Refusal>
-    ensures { Reads result (meaning_by (entry_calls ++ (other_calls ++ clock_calls)) (name.now ∷ words.entry)) }
+    ensures { Reads result (meaning_by (entry_calls ++ (other_calls ++ (clock_calls ++ random_calls))) (name.now ∷ words.entry)) }
 {
     if is(name, b"read") {
         let (number, size) = number_and_number(words)?;
@@ -354,7 +415,7 @@ fn number_and_bytes(alloc: Global, mut words: Parts) -> Result<(u64, ByteString)
 
 // a call on an entry of any kind, or on none
 fn parse_other_call(name: &[u8], words: Parts) -> Option<Call>
-    ensures { result ≡ meaning_by (other_calls ++ clock_calls) (name.now ∷ words.entry) }
+    ensures { result ≡ meaning_by (other_calls ++ (clock_calls ++ random_calls)) (name.now ∷ words.entry) }
 {
     if is(name, b"drop") {
         let number = parse_number(only(words)?)?;
@@ -370,9 +431,9 @@ fn parse_other_call(name: &[u8], words: Parts) -> Option<Call>
     }
 }
 
-// a call on the clocks
+// a call on the clocks, or on the random sources
 fn parse_clock_call(name: &[u8], words: Parts) -> Option<Call>
-    ensures { result ≡ meaning_by clock_calls (name.now ∷ words.entry) }
+    ensures { result ≡ meaning_by (clock_calls ++ random_calls) (name.now ∷ words.entry) }
 {
     if is(name, b"wall-now") {
         on_clocks(words, ClockCall::WallNow)
@@ -399,8 +460,55 @@ fn parse_clock_call(name: &[u8], words: Parts) -> Option<Call>
         let duration = parse_number(only(words)?)?;
         Some(clock(ClockCall::WaitFor { duration }))
     } else {
+        parse_random_call(name, words)
+    }
+}
+
+// a call on the random sources
+fn parse_random_call(name: &[u8], words: Parts) -> Option<Call>
+    ensures { result ≡ meaning_by random_calls (name.now ∷ words.entry) }
+{
+    if is(name, b"random-bytes") {
+        let count = parse_number(only(words)?)?;
+        Some(random_bytes(RandomSource::Secure, count))
+    } else if is(name, b"insecure-bytes") {
+        let count = parse_number(only(words)?)?;
+        Some(random_bytes(RandomSource::Insecure, count))
+    } else if is(name, b"p3-random-bytes") {
+        let count = parse_number(only(words)?)?;
+        Some(random_bytes_up_to(RandomSource::Secure, count))
+    } else if is(name, b"p3-insecure-bytes") {
+        let count = parse_number(only(words)?)?;
+        Some(random_bytes_up_to(RandomSource::Insecure, count))
+    } else if is(name, b"random-u64") {
+        let source = RandomSource::Secure;
+        on_random(words, RandomCall::Number { source })
+    } else if is(name, b"insecure-u64") {
+        let source = RandomSource::Insecure;
+        on_random(words, RandomCall::Number { source })
+    } else if is(name, b"insecure-seed") {
+        on_random(words, RandomCall::InsecureSeed)
+    } else {
         None
     }
+}
+
+fn random_bytes(source: RandomSource, count: u64) -> Call
+    ensures { result ≡ call.Random (random.Bytes source count) }
+{
+    Call::Random(RandomCall::Bytes { source, count })
+}
+
+fn random_bytes_up_to(source: RandomSource, count: u64) -> Call
+    ensures { result ≡ call.Random (random.BytesUpTo source count) }
+{
+    Call::Random(RandomCall::BytesUpTo { source, count })
+}
+
+fn on_random(words: Parts, it: RandomCall) -> Option<Call>
+    ensures { result ≡ on_random it words.entry }
+{
+    is_done(words).then_some(Call::Random(it))
 }
 
 fn clock(it: ClockCall) -> Call

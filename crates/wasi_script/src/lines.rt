@@ -78,6 +78,28 @@ pub enum Setting {
     Stderr(Output),
     /// `capacity G NUM`: the most entries that its table holds, from 1 to 65536.
     Capacity(u32),
+    /// `random G secure BYTES`, `random G insecure BYTES`: a source gives these bytes, one at least,
+    /// again and again.
+    Random {
+        source: RandomSource,
+        bytes: ByteString,
+    },
+    /// `seeded G secure NUM`, `seeded G insecure NUM`: a source is the generator of this seed.
+    Seeded {
+        source: RandomSource,
+        seed: u64,
+    },
+    /// `seed G U128`: the seed for its insecure uses.
+    InsecureSeed(u128),
+    /// `maxrandom G NUM`: the most random bytes that it may ask for at a time.
+    MaxRandom(u64),
+}
+
+/// Which of a guest's two random sources.
+#[derive(Clone, Copy, Debug, PartialEq, Eq, Drop)]
+pub enum RandomSource {
+    Secure,
+    Insecure,
 }
 
 /// One of the three standard streams of a guest.
@@ -157,6 +179,19 @@ pub enum ClockCall {
     WaitFor { duration: u64 },
 }
 
+/// What a guest asks of its random sources.
+#[derive(Clone, Copy, Debug, PartialEq, Eq, Drop)]
+pub enum RandomCall {
+    /// `random-bytes NUM`, `insecure-bytes NUM`: so many bytes. More than the limit are a trap.
+    Bytes { source: RandomSource, count: u64 },
+    /// `p3-random-bytes NUM`, `p3-insecure-bytes NUM`: so many bytes, and no more than the limit.
+    BytesUpTo { source: RandomSource, count: u64 },
+    /// `random-u64`, `insecure-u64`: 64 bits.
+    Number { source: RandomSource },
+    /// `insecure-seed`: the seed for insecure uses.
+    InsecureSeed,
+}
+
 /// What a guest calls on no entry and no stream.
 #[derive(Drop)]
 pub enum OwnCall {
@@ -180,6 +215,8 @@ pub enum Call {
     Drop { number: u64 },
     /// A call on no entry and no stream.
     Own(OwnCall),
+    /// A call on the guest's random sources.
+    Random(RandomCall),
 }
 
 /// What the worker does.

@@ -1,8 +1,8 @@
-pub mod Sitting
-pub mod Reading
-pub mod Program
-pub mod Makes
-pub mod Capacities
-pub mod StreamCalls
-pub mod Live
+pub mod Fitting
 pub mod Generated
+pub mod Live
+pub mod Makes
+pub mod Program
+pub mod Reading
+pub mod Sitting
+pub mod StreamCalls

@@ -3,20 +3,22 @@ ghost use Rattle.wasi_reply.specs.Reply.{ends};
 ghost use Rattle.wasi_host.specs.Calls.{opened, stream_entry, owned, exit_status};
 ghost use Rattle.wasi_host.specs.Deeds.{entry_at};
 ghost use Rattle.wasi_session.specs.Makes.{IsMake};
-ghost use Rattle.wasi_session.specs.Capacities.{CapacityFits};
+ghost use Rattle.wasi_session.specs.Fitting.{SettingFits};
 ghost use Rattle.wasi_session.specs.StreamCalls.{stream_doing};
 ghost use Rattle.wasi_host.specs.declared.leaver.Leaver.TheVariants as leaver;
 ghost use Rattle.wasi_host.specs.Host.{leave_entry, leave_all, the_calls, new_guest, configured, left_guest, settled, answer_at, answer_to, answer_by};
 
 use crate::clocks::{awaited, clocked};
 use crate::own::Own;
+use crate::random::drawn;
 use crate::shared;
 use crate::streams::Streams;
 use std::alloc::Global;
 use std::marker::Model;
 use wasi_base::{OutOfMemory, TrapText};
 use wasi_cli::{Owner, StdioHandle, StdoutHandle};
-use wasi_host::{Clocks, Deed, Entry, Leaver, Settings, SharedEntry, StreamEntry};
+use wasi_host::{Clocks, Deed, Entry, Leaver, Settings, SharedEntry, Sources, StreamEntry};
+use wasi_random::DEFAULT_MAX_SIZE;
 use wasi_reply::{Reply, Told};
 use wasi_script::{Access, Call, EntryCall, ExitStatus, Input, Output, OwnCall, Setting, Standard};
 use wasi_stdin::{StdinCore, Wait};
@@ -24,12 +26,13 @@ use wasi_stdin::{StdinCore, Wait};
 /// How many entries a guest may have unless a line says otherwise.
 const CAPACITY: u32 = 1024;
 
-/// A guest: what configuration lines say of it, what it owns, and whether it was called and
-/// whether it ended.
+/// A guest: what configuration lines say of it, what it owns, its random sources, and whether it
+/// was called and whether it ended.
 #[derive(Drop)]
 pub struct Guest {
     settings: Settings,
     own: Own,
+    sources: Sources,
     was_called: bool,
     ended: bool,
 }
@@ -37,14 +40,15 @@ pub struct Guest {
 impl Model for Guest {
     ghost use Rattle.wasi_host.specs.contracts.settings.Settings.{the_row as settings_row};
     ghost use Rattle.wasi_session.specs.contracts.own.Own.{the_row as own_row};
+    ghost use Rattle.wasi_host.specs.contracts.random.Sources.{the_row as sources_row};
     ghost use Rattle.wasi_host.specs.Host.{Guest};
     ghost use Rattle.wasi_host.specs.Codes.{guest_code};
 
     ghost Value = { Guest };
 
-    ghost coded = { guest_code settings_row.coded own_row.coded };
+    ghost coded = { guest_code settings_row.coded own_row.coded sources_row.coded };
 
-    ghost view = { λ g. record { settings = g.settings; own = g.own; was_called = g.was_called; ended = g.ended } };
+    ghost view = { λ g. record { settings = g.settings; own = g.own; sources = g.sources; was_called = g.was_called; ended = g.ended } };
 }
 
 impl Guest {
@@ -56,8 +60,11 @@ impl Guest {
                 input,
                 stdout: Output::Empty,
                 stderr: Output::Empty,
+                insecure_seed: 0,
+                most_random: DEFAULT_MAX_SIZE,
             },
             own: Own::new(alloc, CAPACITY),
+            sources: Sources::new(),
             was_called: false,
             ended: false,
         }
@@ -72,7 +79,7 @@ impl Guest {
 
     /// Takes over what a line says of the guest. Out of memory leaves it as it was.
     pub fn configure(&mut self, alloc: Global, setting: &Setting) -> Result<(), OutOfMemory>
-        requires { CapacityFits setting.now }
+        requires { SettingFits setting.now }
         ensures ok { OnOk result (self.new ≡ configured setting.now self.old) }
         ensures err { OnErr result (self.new ≡ self.old) }
     {
@@ -80,6 +87,13 @@ impl Guest {
             Setting::Stdout(output) => self.settings.stdout = copy_output(alloc, output)?,
             Setting::Stderr(output) => self.settings.stderr = copy_output(alloc, output)?,
             Setting::Capacity(capacity) => self.own.resize(alloc, *capacity),
+            Setting::Random { source, bytes } => {
+                let bytes = bytes.to_vec(alloc)?;
+                self.sources.repeat(*source, bytes);
+            }
+            Setting::Seeded { source, seed } => self.sources.seed(*source, *seed),
+            Setting::InsecureSeed(seed) => self.settings.insecure_seed = *seed,
+            Setting::MaxRandom(size) => self.settings.most_random = *size,
         }
         Ok(())
     }
@@ -158,8 +172,8 @@ impl Guest {
         core: &mut StdinCore,
         streams: &mut Streams,
     ) -> Result<Reply, OutOfMemory>
-        ensures done { IfOk result (λ reply. settled self.old (record { reply = reply; own = self.new.own }) core.new streams.new ≡ answer_to (the_calls clocks.now) call.now guest self.old core.old streams.old) }
-        ensures rest { self.new ≡ record self.old { own = self.new.own } }
+        ensures done { IfOk result (λ reply. settled (record self.old { sources = self.new.sources }) (record { reply = reply; own = self.new.own }) core.new streams.new ≡ answer_to (the_calls clocks.now) call.now guest self.old core.old streams.old) }
+        ensures rest { self.new ≡ record self.old { own = self.new.own; sources = self.new.sources } }
         ensures err { OnErr result ((self.new ≡ self.old) × (core.new ≡ core.old) × (streams.new ≡ streams.old)) }
     {
         match call {
@@ -180,6 +194,12 @@ impl Guest {
             Call::Own(call) => {
                 let deed = self.owned(call, clocks);
                 self.own.act_apart(deed)
+            }
+            Call::Random(call) => {
+                match drawn(alloc, *call, &self.settings, &mut self.sources) {
+                    Ok(told) => Ok(Reply::Told(told)),
+                    Err(error) => Err(error),
+                }
             }
         }
     }

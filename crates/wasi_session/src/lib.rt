@@ -10,6 +10,7 @@ mod laws;
 mod output;
 mod own;
 mod program;
+mod random;
 mod room;
 mod run;
 mod session;

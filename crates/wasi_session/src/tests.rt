@@ -2,6 +2,7 @@ ghost use Rattle.std.specs.Prelude.{None};
 
 mod clocks;
 mod generated;
+mod random;
 mod tasks;
 
 use crate::{SessionError, run_program, run_session};

@@ -20,6 +20,13 @@ is_number text = nat_le 1 (length text) && nat_le (length text) 20 && list_all i
 abbrev pub number_of : List ℕ → Option ℕ
 number_of text = cond (is_number text) (Some (digits_value 10 text)) None
 
+-- a number of 1 to 39 decimal digits, below 2 ^ 128
+abbrev pub is_u128 : List ℕ → Bool
+is_u128 text = nat_le 1 (length text) && nat_le (length text) 39 && list_all is_ascii_digit text && nat_lt (digits_value 10 text) (2 ^ 128)
+
+abbrev pub u128_of : List ℕ → Option ℕ
+u128_of text = cond (is_u128 text) (Some (digits_value 10 text)) None
+
 -- a number within limits
 abbrev pub number_between : ℕ → ℕ → List ℕ → Option ℕ
 number_between least most text = option_and_then (λ number. cond (nat_le least number && nat_le number most) (Some number) None) (number_of text)

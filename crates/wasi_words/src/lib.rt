@@ -4,5 +4,5 @@
 mod numbers;
 mod parts;
 
-pub use numbers::{parse_between, parse_number};
+pub use numbers::{parse_between, parse_number, parse_u128};
 pub use parts::{Parts, is, is_done, only};

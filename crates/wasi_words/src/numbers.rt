@@ -1,7 +1,7 @@
 ghost use Rattle.std.specs.Prelude.{◌≡◌, ◌≤◌, IfSome};
 ghost use Rattle.std.specs.List.{list_all};
 ghost use Rattle.std.specs.Char.{is_ascii_digit};
-ghost use Rattle.wasi_words.specs.Fields.{number_of, number_between};
+ghost use Rattle.wasi_words.specs.Fields.{number_of, u128_of, number_between};
 
 /// A number of 1 to 20 decimal digits that a u64 holds. Leading zeros are fine.
 #[tactic(auto, using(crate::proofs::NumberFacts::number_parsed))]
@@ -13,6 +13,20 @@ pub fn parse_number(text: &[u8]) -> Option<u64>
     }
     match std::str::from_utf8(text) {
         Ok(digits) => digits.parse().ok(),
+        Err(_) => None,
+    }
+}
+
+/// A number of 1 to 39 decimal digits that a u128 holds. Leading zeros are fine.
+#[tactic(auto, using(crate::proofs::NumberFacts::u128_parsed))]
+pub fn parse_u128(text: &[u8]) -> Option<u128>
+    ensures { result ≡ u128_of text.now }
+{
+    if text.is_empty() || text.len() > 39 || !are_digits(text) {
+        return None;
+    }
+    match std::str::from_utf8(text) {
+        Ok(decimal) => decimal.parse().ok(),
         Err(_) => None,
     }
 }

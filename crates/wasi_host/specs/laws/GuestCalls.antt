@@ -15,6 +15,7 @@ use Rattle.wasi_script.specs.declared.lines.Standard.TheVariants as standard
 use Rattle.wasi_script.specs.declared.lines.Access.{Access}
 use Rattle.wasi_script.specs.declared.lines.EntryCall.{EntryCall}
 use Rattle.wasi_script.specs.declared.lines.OwnCall.{OwnCall}
+use Rattle.wasi_script.specs.declared.lines.RandomCall.{RandomCall}
 use Rattle.wasi_script.specs.declared.lines.Call.{Call}
 use Rattle.wasi_script.specs.declared.lines.Call.TheVariants as call
 use Rattle.wasi_reply.specs.declared.reply.Told.TheVariants as tell
@@ -32,14 +33,15 @@ use Rattle.wasi_host.specs.declared.stream.InStream.{InStream}
 use Rattle.wasi_host.specs.declared.stream.OutStream.{OutStream}
 use Rattle.wasi_host.specs.declared.deed.Deed.{Deed}
 use Rattle.wasi_host.specs.declared.deed.Deed.TheVariants.{Tell, Make, Change}
-use Rattle.wasi_host.specs.Deeds.{Own, Done, trapped, entry_at, may_make, may_change, made, with_kept, act, dropped, is_shared, apart}
+use Rattle.wasi_host.specs.Deeds.{Own, Done, only_told, trapped, entry_at, may_make, may_change, made, with_kept, act, dropped, is_shared, apart}
 use Rattle.wasi_host.specs.Calls.{Doing, doing, opened, asked, called, sent, awaited, owned as own_deed, shared_entry, stream_entry}
 use Rattle.wasi_host.specs.Clocks.{Clocks}
-use Rattle.wasi_host.specs.Host.{Guest, Streams, the_calls, Answered, settled, leave_entry, answer_at, answer_to, answer_by, input_at, put_input, output_at, put_output}
+use Rattle.wasi_host.specs.Random.{Sources, Drawn, drawn}
+use Rattle.wasi_host.specs.Host.{Guest, Streams, the_calls, Answered, settled, left_guest, on_sources, leave_entry, answer_at, answer_to, answer_by, input_at, put_input, output_at, put_output}
 use Rattle.wasi_host.specs.Run.{Standing, Sharing, at_number, without_guest, dropped_by, live_after, left_by, EntryRule, entry_bytes, CallRule, OpenRule, DropRule, EndedRule, call_bytes}
 use Rattle.wasi_host.specs.Run as run
 use Rattle.wasi_host.specs.laws.Entries.{IsOwn, own_left, Follows, acts, drops, live_is}
-use Rattle.wasi_host.specs.laws.Shown.{standing_by, standing_at, standing_in, standing_kept, standing_with, shares_in, capacity_in, ended_in, shown, cond_same, with_own, put_alike, put_same, nothing_stands, stands_there, standing_pushed}
+use Rattle.wasi_host.specs.laws.Shown.{standing_by, standing_at, standing_in, standing_kept, standing_with, shares_in, capacity_in, ended_in, shown, cond_same, with_own, put_alike, put_same, nothing_stands, stands_there, standing_pushed, shown_put}
 use Rattle.wasi_host.specs.laws.SharedCalls.{Called, called_by, Does, none_handed, entry_does, open_does, drop_does}
 
 -- ---- a deed that is apart from the shared input
@@ -142,10 +144,10 @@ over_ended false x y o h = refl
 
 -- a guest that a reply ends, and one that goes on
 abbrev ending : Bool → Guest → Own → Guest
-ending b guest own = record { settings = guest.settings; own = cond b (record { table = new_table own.table.capacity }) own; was_called = true; ended = b }
+ending b guest own = record { settings = guest.settings; sources = guest.sources; own = cond b (record { table = new_table own.table.capacity }) own; was_called = true; ended = b }
 
 left_shown : (b : Bool) (front : List ℕ) (shared : Shared) (guests : ℕ → Option Guest) (live : ℕ → FinSet nat_cmp) (told : Told) (g : ℕ) (guest : Guest) (own : Own) (l : FinSet nat_cmp) → guest.ended ≡ false → let mid : Sharing = shown front shared (at_number guests g (Some (with_own guest own))) live told in shown front shared (at_number guests g (Some (ending b guest own))) (at_number live g (cond b empty l)) told ≡ cond b (without_guest mid g) (record mid { live = at_number live g l })
-left_shown false front shared guests live told g guest own l e = λ i. shown front shared (at_number guests g (Some (record { settings = guest.settings; own = own; was_called = true; ended = sym e i }))) (at_number live g l) told
+left_shown false front shared guests live told g guest own l e = λ i. shown front shared (at_number guests g (Some (record { settings = guest.settings; own = own; sources = guest.sources; was_called = true; ended = sym e i }))) (at_number live g l) told
 left_shown true front shared guests live told g guest own l e =
     let new : Option Guest = Some (ending true guest own) in
     let old : Option Guest = Some (with_own guest own) in
@@ -159,6 +161,14 @@ left_shown true front shared guests live told g guest own l e =
 left_owned : (b : Bool) (guest : Guest) (own : Own) (l : FinSet nat_cmp) → IsOwn own l → IsGuest (ending b guest own) (cond b empty l)
 left_owned true guest own l is = record { own = own_left own l is; fresh = λ e. absurd (true≢false e) }
 left_owned false guest own l is = record { own = is; fresh = λ e. absurd (true≢false e) }
+
+-- a guest that has other random sources has what it had, and shows what it showed
+owned_again : (b : Bool) (guest : Guest) (sources : Sources) (o : Option Guest) (l : FinSet nat_cmp) → OwnedBy (cond b (Some guest) o) l → OwnedBy (cond b (Some (record guest { sources = sources })) o) l
+owned_again true guest sources o l is = record { own = is.own; fresh = is.fresh }
+owned_again false guest sources o l is = is
+
+sources_apart : (front : List ℕ) (shared : Shared) (guests : ℕ → Option Guest) (live : ℕ → FinSet nat_cmp) (told : Told) (g : ℕ) (guest : Guest) (sources : Sources) → shown front shared (at_number guests g (Some guest)) live told ≡ shown front shared (at_number guests g (Some (record guest { sources = sources }))) live told
+sources_apart front shared guests live told g guest sources = shown_put front shared guests live told g guest ∙ sym (shown_put front shared guests live told g (record guest { sources = sources }))
 
 module _ (input front : List ℕ) (shared : Shared) (guests : ℕ → Option Guest) (live : ℕ → FinSet nat_cmp) (told : Told) (g : ℕ) (guest : Guest) (goes_on : guest.ended ≡ false) (there : guests g ≡ Some guest) (is : IsGuest guest (live g)) (owned : (m : ℕ) → OwnedBy (guests m) (live m)) (sound : IsSound shared) (input_is : input ≡ front ++ (shared.held ++ told.left)) where
   abbrev now : Sharing
@@ -274,11 +284,30 @@ module _ (input front : List ℕ) (shared : Shared) (guests : ℕ → Option Gue
   own_next : (it : OwnCall) (deed : Deed) (streams : Streams) → Goes (call.Own it) (settled guest (act (apart deed) guest.own) shared streams)
   own_next it deed streams = other (call.Own it) (act (apart deed) guest.own) streams (follow (call.Own it) (apart deed) (λ live. refl)) (stands_still guest.own (live g) is.own deed) (λ s' e. e) refl
 
+  -- ---- a call on the guest's random sources: nothing of it shows but what it is told
+  random_next : (it : RandomCall) (done : Drawn) (streams : Streams) → Goes (call.Random it) (on_sources done guest shared streams)
+  random_next it done streams =
+      let told : Done = only_told done.told guest.own in
+      let before = other (call.Random it) told streams (follow (call.Random it) (Tell done.told) (λ live. refl)) (λ m. refl) (λ s' e. e) refl in
+      drawn_from (left_guest guest told.reply told.own) done.left before
+    where
+      drawn_from : (left : Guest) (sources : Sources) → Goes (call.Random it) (record { reply = reply.Told done.told; guest = left; shared = shared; streams = streams }) → Goes (call.Random it) (record { reply = reply.Told done.told; guest = record left { sources = sources }; shared = shared; streams = streams })
+      drawn_from left sources before = record {
+        front' = before.front';
+        live' = before.live';
+        front_is = before.front_is;
+        input_is = before.input_is;
+        sound = before.sound;
+        owned = λ m. owned_again (nat_eq m g) left sources (guests m) (before.live' m) (before.owned m);
+        rule = subst (λ s. EndedRule false (call.Random it) input now g (reply.Told done.told) s) (sources_apart before.front' shared guests before.live' told g left sources) before.rule;
+      }
+
   pub goes_next : (clocks : Clocks) (c : Call) (streams : Streams) → Goes c (answer_to (the_calls clocks) c g guest shared streams)
   goes_next clocks (call.Open it how) streams = opens it how guest.settings.input streams refl
   goes_next clocks (call.On n it) streams = entry_next clocks it n (held_at guest.own.table n) streams refl
   goes_next clocks (call.Drop n) streams = drop_next n (leave_entry (leaver.Entry (record { guest = g; number = n })) (entry_at guest.own n) guest.settings streams)
   goes_next clocks (call.Own it) streams = own_next it (own_deed clocks it guest.settings guest.own) streams
+  goes_next clocks (call.Random it) streams = random_next it (drawn it guest.settings guest.sources) streams
 
 pub call_next : (clocks : Clocks) (b : Bool) (c : Call) (input front : List ℕ) (shared : Shared) (guests : ℕ → Option Guest) (live : ℕ → FinSet nat_cmp) (told : Told) (g : ℕ) (guest : Guest) (streams : Streams) → guest.ended ≡ b → guests g ≡ Some guest → IsGuest guest (live g) → ((m : ℕ) → OwnedBy (guests m) (live m)) → IsSound shared → input ≡ front ++ (shared.held ++ told.left) → let done : Answered = answer_by b (the_calls clocks) c g guest shared streams in Next input front shared guests live told (λ s. call_bytes b c input s g done.reply) (λ s s'. EndedRule b c input s g done.reply s') done.shared (at_number guests g (Some done.guest)) told
 call_next clocks true c input front shared guests live told g guest streams ended there is owned sound input_is = record {

@@ -49,7 +49,7 @@ use Rattle.wasi_host.specs.declared.leaver.Leaver.{Leaver}
 use Rattle.wasi_host.specs.declared.leaver.Leaver.TheVariants as leaver
 use Rattle.wasi_host.specs.InStreams.{input_without}
 use Rattle.wasi_host.specs.OutStreams.{taken_of, output_without}
-use Rattle.wasi_host.specs.Deeds.{Own, Done, trapped, entry_at, may_make, may_change, made, with_kept, act, dropped, dropped_at, is_shared, apart}
+use Rattle.wasi_host.specs.Deeds.{Own, Done, only_told, trapped, entry_at, may_make, may_change, made, with_kept, act, dropped, dropped_at, is_shared, apart}
 use Rattle.wasi_host.specs.Calls.{Owner, opened}
 use Rattle.wasi_host.specs.Clocks.{Clocks, clocks_after}
 use Rattle.wasi_host.specs.Host.{Named, Guest, left_own, left_guest, Streams, taken_out, put_back, input_at, put_input, output_at, put_output, leave_input, leave_output, leave_entry, leave_all, left_streams, Host, Rules, the_rules, Answered, guest_of, new_guest, configured, new_host, new_input, new_output, answer_at, answer_to, answer_by, answer_in, answer, given_for, size_read, step_reply, step_host, step_told, reply_by, host_by, replies, host_end}
@@ -407,6 +407,7 @@ module _ (rules : Rules) (mine : List ℕ → Bool) (g : ℕ) where
   to_told clocks (call.Open it how) k guest s s' one two fits same = record { reply = refl; guest = refl; streams = same }
   to_told clocks (call.Drop n) k guest s s' one two fits same = record { reply = refl; guest = refl; streams = entry_same (leaver.Entry (record { guest = k; number = n })) (entry_at guest.own n) guest one two fits same }
   to_told clocks (call.Own it) k guest s s' one two fits same = record { reply = refl; guest = refl; streams = same }
+  to_told clocks (call.Random it) k guest s s' one two fits same = record { reply = refl; guest = refl; streams = same }
 
   by_told : (clocks : Clocks) (b : Bool) (c : Call) (k : ℕ) (guest : Guest) (s s' : Shared) (one two : Streams) → Fits true guest → Same one two → Tells (answer_by b (rules.calls clocks) c k guest s one) (answer_by b (rules.calls clocks) c k guest s' two)
   by_told clocks true c k guest s s' one two fits same = record { reply = refl; guest = refl; streams = same }
@@ -479,6 +480,7 @@ module _ (rules : Rules) (mine : List ℕ → Bool) (g : ℕ) where
   configured_fits k (setting.Stdout to) (Some guest) apart fits = record { reads = fits.reads; writes = apart; tells = fits.tells; unshared = fits.unshared }
   configured_fits k (setting.Stderr to) (Some guest) apart fits = record { reads = fits.reads; writes = fits.writes; tells = apart; unshared = fits.unshared }
   configured_fits k (setting.Capacity capacity) (Some guest) apart fits = record { reads = fits.reads; writes = fits.writes; tells = fits.tells; unshared = λ own. unshared_new capacity }
+  configured_fits k it (Some guest) apart fits = record { reads = fits.reads; writes = fits.writes; tells = fits.tells; unshared = fits.unshared }
 
   left_fits : (own : Bool) (guest : Guest) (done : Done) → Fits own guest → (own ≡ true → Unshared done.own) → Fits own (left_guest guest done.reply done.own)
   left_fits own guest done fits none = record { reads = fits.reads; writes = fits.writes; tells = fits.tells; unshared = λ is. left_unshared done.own done.reply (none is) }
@@ -506,6 +508,10 @@ module _ (rules : Rules) (mine : List ℕ → Bool) (g : ℕ) where
   to_fits clocks own (call.On n it) k guest s streams fits = at_fits clocks own it (record { guest = k; number = n }) (held_at guest.own.table n) guest s streams (λ is. fits.unshared is n) fits
   to_fits clocks own (call.Drop n) k guest s streams fits = left_fits own guest (dropped n guest.own) fits (λ is. dropped_unshared guest.own (fits.unshared is) n (entry_at guest.own n))
   to_fits clocks own (call.Own it) k guest s streams fits = left_fits own guest (act (apart ((rules.calls clocks).owned it guest.settings guest.own)) guest.own) fits (λ is. apart_unshared guest.own (fits.unshared is) ((rules.calls clocks).owned it guest.settings guest.own))
+  to_fits clocks own (call.Random it) k guest s streams fits =
+      let done = (rules.calls clocks).drawn it guest.settings guest.sources in
+      let drawn : Guest = record guest { sources = done.left } in
+      left_fits own drawn (only_told done.told guest.own) (record { reads = fits.reads; writes = fits.writes; tells = fits.tells; unshared = fits.unshared }) fits.unshared
 
   by_fits : (clocks : Clocks) (own b : Bool) (c : Call) (k : ℕ) (guest : Guest) (s : Shared) (streams : Streams) → Fits own guest → Fits own (answer_by b (rules.calls clocks) c k guest s streams).guest
   by_fits clocks own true c k guest s streams fits = record { reads = fits.reads; writes = fits.writes; tells = fits.tells; unshared = fits.unshared }

@@ -121,6 +121,7 @@ to_leaves rules (call.On n it) g guest s streams = at_leaves rules it (record { 
 to_leaves rules (call.Open it how) g guest s streams = record { inputs = λ name apart. refl; outputs = λ name apart. refl; shared = λ apart. refl; settings_are = refl }
 to_leaves rules (call.Drop n) g guest s streams = entry_leaves (dropped n guest.own) (leaver.Entry (record { guest = g; number = n })) (entry_at guest.own n) guest s streams
 to_leaves rules (call.Own it) g guest s streams = record { inputs = λ name apart. refl; outputs = λ name apart. refl; shared = λ apart. refl; settings_are = refl }
+to_leaves rules (call.Random it) g guest s streams = record { inputs = λ name apart. refl; outputs = λ name apart. refl; shared = λ apart. refl; settings_are = refl }
 
 -- .. and what it leaves once its guest ended
 all_left : (who : Leaver) (settings : Settings) (streams : Streams) (name : List ℕ) → output_names settings.stdout name ≡ false → output_names settings.stderr name ≡ false → lookup (bytes_eq name) (leave_all who settings streams).outputs ≡ lookup (bytes_eq name) streams.outputs

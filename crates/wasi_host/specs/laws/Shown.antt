@@ -96,7 +96,7 @@ shown_put front shared guests live told n guest = λ i. record (shown front shar
 
 -- a guest whose own is another
 abbrev pub with_own : Guest → Own → Guest
-with_own guest own = record { settings = guest.settings; own = own; was_called = true; ended = guest.ended }
+with_own guest own = record { settings = guest.settings; own = own; sources = guest.sources; was_called = true; ended = guest.ended }
 
 pub put_own : (front : List ℕ) (shared : Shared) (guests : ℕ → Option Guest) (live : ℕ → FinSet nat_cmp) (told : Told) (n : ℕ) (guest : Guest) (own : Own) (standing : ℕ → Option Standing) → guests n ≡ Some guest → standing_with (Some (with_own guest own)) ≡ standing → own.table.capacity ≡ guest.own.table.capacity → shown front shared (at_number guests n (Some (with_own guest own))) live told ≡ record (shown front shared guests live told) { standing = at_number (shown front shared guests live told).standing n standing }
 put_own front shared guests live told n guest own standing e is same =

@@ -193,6 +193,7 @@ to_called rules (call.On n it) g guest s streams = at_called rules it (record { 
 to_called rules (call.Open it how) g guest s streams = refl
 to_called rules (call.Drop n) g guest s streams = refl
 to_called rules (call.Own it) g guest s streams = refl
+to_called rules (call.Random it) g guest s streams = refl
 
 by_called : (rules : CallRules) (b : Bool) (c : Call) (g : ℕ) (guest : Guest) (s : Shared) (streams : Streams) → (answer_by b rules c g guest s streams).guest.was_called ≡ true
 by_called rules true c g guest s streams = refl

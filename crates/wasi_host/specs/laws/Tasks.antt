@@ -272,6 +272,7 @@ to_settings rules (call.On n it) g guest s streams = at_settings rules it (recor
 to_settings rules (call.Open it how) g guest s streams = refl
 to_settings rules (call.Drop n) g guest s streams = refl
 to_settings rules (call.Own it) g guest s streams = refl
+to_settings rules (call.Random it) g guest s streams = refl
 
 pub call_settings : (rules : CallRules) (b : Bool) (c : Call) (g : ℕ) (guest : Guest) (s : Shared) (streams : Streams) → (answer_by b rules c g guest s streams).guest.settings ≡ guest.settings
 call_settings rules true c g guest s streams = refl
@@ -341,7 +342,7 @@ module _ (names : Names) (step : Line) where
   configured_stands (setting.Stderr to) (Some guest) is stand =
       let all = guest_grown names (names_after names step) (step_grows names step) guest stand in
       record { reads = all.reads; writes = all.writes; tells = output_grown names (names_after names step) (step_grows names step) to is }
-  configured_stands (setting.Capacity capacity) (Some guest) is stand =
+  configured_stands other (Some guest) is stand =
       let all = guest_grown names (names_after names step) (step_grows names step) guest stand in
       record { reads = all.reads; writes = all.writes; tells = all.tells }
 

@@ -175,12 +175,14 @@ module _ (R : Change) (holds : HoldsOfEach R) (name : List ℕ) where
   to_call clocks (call.Open it how) g guest s streams goes_on = kept _ streams.outputs
   to_call clocks (call.Drop n) g guest s streams goes_on = leaves_entry None (dropped n guest.own).reply streams.outputs (leaver.Entry (record { guest = g; number = n })) (entry_at guest.own n) guest.settings streams (kept _ streams.outputs)
   to_call clocks (call.Own it) g guest s streams goes_on = kept _ streams.outputs
+  to_call clocks (call.Random it) g guest s streams goes_on = kept _ streams.outputs
 
   ended_call : (c : Call) (guest : Guest) → guest.ended ≡ true → guest_call_on name c guest ≡ None
   ended_call (call.On n it) guest e = ap (λ b. cond b None (entry_call_on name it (entry_at guest.own n) guest.settings)) e
   ended_call (call.Open it how) guest e = refl
   ended_call (call.Drop n) guest e = refl
   ended_call (call.Own it) guest e = refl
+  ended_call (call.Random it) guest e = refl
 
   by_call : (clocks : Clocks) (b : Bool) (c : Call) (g : ℕ) (guest : Guest) (s : Shared) (streams : Streams) → guest.ended ≡ b → let done = answer_by b (the_calls clocks) c g guest s streams in Holds (guest_call_on name c guest) done.reply streams.outputs done.streams.outputs
   by_call clocks true c g guest s streams e = subst (λ on. Holds on reply.Ended streams.outputs streams.outputs) (sym (ended_call c guest e)) (kept reply.Ended streams.outputs)

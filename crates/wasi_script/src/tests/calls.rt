@@ -4,8 +4,8 @@ ghost use Rattle.std.specs.Prelude.{◌≡◌, length, IfOk};
 
 use super::{bad_line, check_bytes, parsed};
 use crate::{
-    Access, Call, ClockCall, ClockSetting, EntryCall, ExitStatus, Line, OwnCall, Script, Setting,
-    Standard, WorkerTurn,
+    Access, Call, ClockCall, ClockSetting, EntryCall, ExitStatus, Line, OwnCall, RandomCall,
+    RandomSource, Script, Setting, Standard, WorkerTurn,
 };
 use std::alloc::Global;
 use std::process::Abort;
@@ -486,6 +486,180 @@ fn lines_that_set_a_clock(rt: HostRuntime) -> Result<(), Fail> {
         "clock moon 1",
     ] {
         assert_eq!(rt; bad_line(&rt, rt.alloc(), text)?, Some(1), "{text}");
+    }
+    Ok(())
+}
+
+#[test]
+fn calls_on_the_random_sources(rt: HostRuntime) -> Result<(), Fail> {
+    let (secure, insecure) = (RandomSource::Secure, RandomSource::Insecure);
+    let calls = [
+        (
+            "random-bytes 18446744073709551615",
+            RandomCall::Bytes {
+                source: secure,
+                count: u64::MAX,
+            },
+        ),
+        (
+            "insecure-bytes 00",
+            RandomCall::Bytes {
+                source: insecure,
+                count: 0,
+            },
+        ),
+        (
+            "p3-random-bytes 7",
+            RandomCall::BytesUpTo {
+                source: secure,
+                count: 7,
+            },
+        ),
+        (
+            "p3-insecure-bytes 8",
+            RandomCall::BytesUpTo {
+                source: insecure,
+                count: 8,
+            },
+        ),
+        ("random-u64", RandomCall::Number { source: secure }),
+        ("insecure-u64", RandomCall::Number { source: insecure }),
+        ("insecure-seed", RandomCall::InsecureSeed),
+    ];
+    for (text, want) in calls {
+        let text = format!(in rt.alloc(); "guest 3 empty\ncall 3 {text}")?;
+        let script = parsed(&rt, rt.alloc(), text.as_str())?;
+        match script.steps() {
+            [
+                _,
+                Line::Call {
+                    guest: 3,
+                    call: Call::Random(found),
+                },
+            ] => assert_eq!(rt; *found, want),
+            _ => panic!(rt; "{text}"),
+        }
+    }
+    for text in [
+        "random-bytes",
+        "random-bytes 18446744073709551616",
+        "random-u64 1",
+        "insecure-seed 0",
+        "p3-random-u64",
+    ] {
+        let text = format!(in rt.alloc(); "guest 3 empty\ncall 3 {text}")?;
+        assert_eq!(rt; bad_line(&rt, rt.alloc(), text.as_str())?, Some(2));
+    }
+    Ok(())
+}
+
+#[test]
+fn lines_that_set_random_sources(rt: HostRuntime) -> Result<(), Fail> {
+    let text = "guest 3 empty\nrandom 3 secure 01fF\nrandom 3 insecure 2*7a\n\
+                seeded 3 secure 18446744073709551615\nseeded 3 insecure 007\n\
+                seed 3 340282366920938463463374607431768211455\n\
+                maxrandom 3 18446744073709551615\nmaxrandom 3 0";
+    let script = parsed(&rt, rt.alloc(), text)?;
+    let [_, first, second, third, fourth, fifth, sixth, seventh] = script.steps() else {
+        panic!(rt; "eight steps");
+    };
+    check_random(&rt, rt.alloc(), first, RandomSource::Secure, b"\x01\xff")?;
+    check_random(&rt, rt.alloc(), second, RandomSource::Insecure, b"zz")?;
+    check_seeded(&rt, third, RandomSource::Secure, u64::MAX)?;
+    check_seeded(&rt, fourth, RandomSource::Insecure, 7)?;
+    match fifth {
+        Line::Configure {
+            guest: 3,
+            setting: Setting::InsecureSeed(seed),
+        } => assert_eq!(rt; *seed, u128::MAX),
+        _ => panic!(rt; "no seed"),
+    }
+    check_limit(&rt, sixth, u64::MAX)?;
+    check_limit(&rt, seventh, 0)
+}
+
+fn check_random(
+    rt: &impl Abort,
+    alloc: Global,
+    line: &Line,
+    want: RandomSource,
+    bytes: &[u8],
+) -> Result<(), Fail> {
+    match line {
+        Line::Configure {
+            guest: 3,
+            setting: Setting::Random {
+                source,
+                bytes: found,
+            },
+        } => {
+            assert_eq!(rt; *source, want);
+            assert_eq!(rt; found.to_vec(alloc)?.as_slice(), bytes);
+        }
+        _ => panic!(rt; "no bytes"),
+    }
+    Ok(())
+}
+
+fn check_seeded(rt: &impl Abort, line: &Line, want: RandomSource, number: u64) -> Result<(), Fail> {
+    match line {
+        Line::Configure {
+            guest: 3,
+            setting: Setting::Seeded { source, seed },
+        } => {
+            assert_eq!(rt; *source, want);
+            assert_eq!(rt; *seed, number);
+        }
+        _ => panic!(rt; "no seed of a source"),
+    }
+    Ok(())
+}
+
+fn check_limit(rt: &impl Abort, line: &Line, want: u64) -> Result<(), Fail> {
+    match line {
+        Line::Configure {
+            guest: 3,
+            setting: Setting::MaxRandom(size),
+        } => assert_eq!(rt; *size, want),
+        _ => panic!(rt; "no limit"),
+    }
+    Ok(())
+}
+
+#[test]
+fn lines_that_set_no_random_source(rt: HostRuntime) -> Result<(), Fail> {
+    for text in [
+        "random 3 secure -",
+        "random 3 secure 0",
+        "random 3 secure",
+        "random 3 safe 00",
+        "random 4 secure 00",
+        "random 3 secure 00 00",
+        "seeded 3 insecure 18446744073709551616",
+        "seeded 3 insecure -1",
+        "seeded 3 7",
+        "seed 3 340282366920938463463374607431768211456",
+        "seed 3 0000000000000000000000000000000000000000",
+        "seed 3",
+        "seed 3 1 2",
+        "maxrandom 3 18446744073709551616",
+        "maxrandom 3 -",
+        "maxrandom 64 1",
+        "call 3 random-u64\nmaxrandom 3 1",
+        "call 3 random-u64\nseeded 3 secure 1",
+    ] {
+        let before = format!(in rt.alloc(); "guest 3 empty\n{text}")?;
+        let lines = text
+            .as_bytes()
+            .iter()
+            .filter(|byte| **byte == b'\n')
+            .count() as u64;
+        let line = u64::saturating_add(lines, 2);
+        assert_eq!(rt;
+            bad_line(&rt, rt.alloc(), before.as_str())?,
+            Some(line),
+            "{text}"
+        );
     }
     Ok(())
 }

@@ -2,7 +2,7 @@ use Rattle.wasi_script.specs.Grammar.{may_declare, budget_stands}
 use Rattle.wasi_script.specs.laws.Distinct.{first_is}
 use Rattle.wasi_host.specs.Host.{names_of}
 use Rattle.wasi_host.specs.laws.Steps.{second_of}
-use Rattle.wasi_session.proofs.GuestFacts.{no_input, no_output}
+use Rattle.wasi_session.proofs.GuestFacts.{no_input, no_output, call_is_step}
 use Rattle.wasi_session.proofs.world.World.answer.Goals as goal
 
 pub declare_input-requires : goal.declare_input-requires
@@ -16,3 +16,6 @@ declare_output-requires-clause-stands g c = second_of (may_declare (names_of c.a
 
 pub call-requires : goal.call-requires
 call-requires g c = rw c.in-Call.is at c.requires.fits
+
+pub returns-in-Call-clause-step : goal.returns-in-Call-clause-step
+returns-in-Call-clause-step g c = call_is_step c.call.result (g.I.Source.told c.args.stdin.now) c.args.self.now c.call.new.self c.in-Call.guest c.in-Call.call c.args.line.now c.in-Call.is c.call.ensures.reply c.call.ensures.after
