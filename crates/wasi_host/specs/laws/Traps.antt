@@ -19,7 +19,7 @@ use Rattle.wasi_base.specs.declared.polled.Polled.TheVariants as polled
 use Rattle.wasi_base.specs.declared.stream_error.StreamError.{StreamError}
 use Rattle.wasi_base.specs.declared.stream_error.StreamError.TheVariants as failure
 use Rattle.wasi_base.specs.declared.trap_text.TrapText.{TrapText}
-use Rattle.wasi_base.specs.declared.trap_text.TrapText.TheVariants.{ResourceNotPresent, ResourceWrongType, ResourceHasChildren, ResourceTableFull, WriteBeyondCapacity, WriteExceededBudget, WriteWhileFlushPending, ConcurrentReads, ConcurrentSkips, ConcurrentCheckWrites, ConcurrentWrites, ConcurrentFlushes}
+use Rattle.wasi_base.specs.declared.trap_text.TrapText.TheVariants.{RequestedLength, ResourceNotPresent, ResourceWrongType, ResourceHasChildren, ResourceTableFull, WriteBeyondCapacity, WriteExceededBudget, WriteWhileFlushPending, ConcurrentReads, ConcurrentSkips, ConcurrentCheckWrites, ConcurrentWrites, ConcurrentFlushes}
 use Rattle.wasi_table.specs.Table.{Held, held_at, entry_in, is_live, live_count, next_number, with_pushed, without, has_children}
 use Rattle.wasi_streams.specs.declared.writer_turn.Trouble.{Trouble}
 use Rattle.wasi_streams.specs.declared.writer_turn.Trouble.TheVariants.{Nothing, Untold, Told as WasTold}
@@ -32,6 +32,7 @@ use Rattle.wasi_streams.specs.Writer.{Writer, permit, told_first, after_told, wi
 use Rattle.wasi_cli.specs.declared.owner.Owner.{Owner}
 use Rattle.wasi_cli.specs.declared.stdout_handle.StdoutHandle.{StdoutHandle}
 use Rattle.wasi_cli.specs.Shared.{unless_held, after_unless_held}
+use Rattle.wasi_random.specs.Known.{known_bytes}
 use Rattle.wasi_stdin.specs.Shared.{Shared, Reading, Polling, Skipped, reading_of, skipped as skipped_past, poll_of, wait_after_poll, block_of, wait_after_block}
 use Rattle.wasi_stdin.specs.Shared as stdin
 use Rattle.wasi_script.specs.declared.lines.Input.{Input}
@@ -44,6 +45,8 @@ use Rattle.wasi_script.specs.declared.lines.EntryCall.{EntryCall}
 use Rattle.wasi_script.specs.declared.lines.EntryCall.TheVariants as on
 use Rattle.wasi_script.specs.declared.lines.Call.{Call}
 use Rattle.wasi_script.specs.declared.lines.Call.TheVariants as call
+use Rattle.wasi_script.specs.declared.lines.RandomCall.{RandomCall}
+use Rattle.wasi_script.specs.declared.lines.RandomCall.TheVariants as random
 use Rattle.wasi_script.specs.declared.lines.Line.{Line}
 use Rattle.wasi_script.specs.declared.lines.Line.TheVariants as line
 use Rattle.wasi_reply.specs.declared.reply.Told.{Told}
@@ -67,7 +70,8 @@ use Rattle.wasi_host.specs.declared.leaver.Leaver.{Leaver}
 use Rattle.wasi_host.specs.declared.leaver.Leaver.TheVariants as leaver
 use Rattle.wasi_host.specs.InStreams.{input_read, input_skip, after_input_read, input_poll_read, input_without}
 use Rattle.wasi_host.specs.OutStreams.{output_check_write, after_output_check_write, output_write, after_output_write, output_flush, after_output_flush, output_poll_write, output_poll_flush, output_without}
-use Rattle.wasi_host.specs.Deeds.{Own, Done, trapped, entry_at, made, may_make, may_change, same_standard, with_kept, act, dropped, dropped_at, apart}
+use Rattle.wasi_host.specs.Random.{Drawn, Sources, draw, drawn}
+use Rattle.wasi_host.specs.Deeds.{Own, Done, only_told, trapped, entry_at, made, may_make, may_change, same_standard, with_kept, act, dropped, dropped_at, apart}
 use Rattle.wasi_host.specs.Clocks.{Clocks}
 use Rattle.wasi_host.specs.Calls.{Settings, asked, called, sent, polled_read, polled_write, polled_flush, reading_told, skipped_told, polling_told, error_told, result_told, poll_told, is_done}
 use Rattle.wasi_host.specs.Host.{Named, Guest, Streams, Host, Answered, the_calls, taken_out, put_back, input_at, put_input, output_at, put_output, settled, left_guest, leave_input, leave_output, leave_entry, leave_all, guest_of, answer_at, answer_to, answer_by, answer_in, answer, reply_to, host_after}
@@ -550,6 +554,17 @@ at_leaves clocks it g n (Some (entry.Own on)) guest s streams held e =
 drop_left : (g n : ℕ) (guest : Guest) (streams : Streams) (name : List ℕ) (m : ℕ) → AllLeft name g m guest.settings (leave_all (leaver.Guest g) guest.settings (leave_entry (leaver.Entry (record { guest = g; number = n })) (entry_at guest.own n) guest.settings streams)) streams
 drop_left g n guest streams name m = let left = entry_left name g n (entry_at guest.own n) guest.settings streams in record { input_is = left.input_is; output_is = left.output_is }
 
+-- a draw that traps draws nothing
+draws_none : (it : RandomCall) (settings : Settings) (sources : Sources) → told_ends (drawn it settings sources).told ≡ true → (drawn it settings sources).left ≡ sources
+draws_none (random.Bytes from count) settings sources e = by_limit (nat_lt settings.most_random count) e
+  where
+    by_limit : (past : Bool) → let it : Drawn = cond past (record { told = told.Trap (RequestedLength count settings.most_random); left = sources }) (draw (known_bytes count) told.Bytes from sources) in told_ends it.told ≡ true → it.left ≡ sources
+    by_limit true e = refl
+    by_limit false e = absurd (true≢false (sym e))
+draws_none (random.BytesUpTo from count) settings sources e = absurd (true≢false (sym e))
+draws_none (random.Number from) settings sources e = absurd (true≢false (sym e))
+draws_none random.InsecureSeed settings sources e = refl
+
 to_leaves : (clocks : Clocks) (c : Call) (g : ℕ) (guest : Guest) (s : Shared) (streams : Streams) → let done = answer_to (the_calls clocks) c g guest s streams in ends done.reply ≡ true → Leaves g guest s streams done
 to_leaves clocks (call.Open it how) g guest s streams e =
     let deed = Make (Rattle.wasi_host.specs.Calls.opened guest.settings.input it how) None in
@@ -563,6 +578,16 @@ to_leaves clocks (call.Drop n) g guest s streams e = record {
 to_leaves clocks (call.Own it) g guest s streams e =
     let deed = apart ((the_calls clocks).owned it guest.settings guest.own) in
     left_as g guest s streams (act deed guest.own) s streams e (act_keeps deed guest.own) refl refl
+
+to_leaves clocks (call.Random it) g guest s streams e =
+    let done = drawn it guest.settings guest.sources in
+    let drew : Guest = record guest { sources = done.left } in
+    let same : drew ≡ guest = ap (λ sources. record guest { sources = sources }) (draws_none it guest.settings guest.sources e) in
+    record {
+      shared_is = refl;
+      guest_is = ended_is drew (only_told done.told guest.own) e refl ∙ ap ended_guest same;
+      left = λ name n. all_left name g n guest.settings streams;
+    }
 
 -- ---- .. and once they did
 record Stays (g : ℕ) (guest : Guest) (s : Shared) (streams : Streams) (done : Answered) : Type 0 where
@@ -625,6 +650,7 @@ dead_reply clocks (call.On n it) g number guest s streams is dead =
 dead_reply clocks (call.Drop n) g number guest s streams is dead = ap (λ o. (dropped_at o n guest.own).reply) (ap (entry_at guest.own) (same_number n number is) ∙ dead)
 dead_reply clocks (call.Open it how) g number guest s streams is dead = absurd (true≢false (sym (ap is_some is)))
 dead_reply clocks (call.Own it) g number guest s streams is dead = absurd (true≢false (sym (ap is_some is)))
+dead_reply clocks (call.Random it) g number guest s streams is dead = absurd (true≢false (sym (ap is_some is)))
 
 pub dead_refused : (g number : ℕ) (c : Call) (guest : Guest) (host : Host) (given : Given) → guest_of host g ≡ Some guest → guest.ended ≡ false → number_in c ≡ Some number → is_live guest.own.table number ≡ false → IsRefused g c guest host given
 dead_refused g number c guest host given there goes_on is dead =
