@@ -578,7 +578,6 @@ to_leaves clocks (call.Drop n) g guest s streams e = record {
 to_leaves clocks (call.Own it) g guest s streams e =
     let deed = apart ((the_calls clocks).owned it guest.settings guest.own) in
     left_as g guest s streams (act deed guest.own) s streams e (act_keeps deed guest.own) refl refl
-
 to_leaves clocks (call.Random it) g guest s streams e =
     let done = drawn it guest.settings guest.sources in
     let drew : Guest = record guest { sources = done.left } in
