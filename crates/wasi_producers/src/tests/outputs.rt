@@ -26,7 +26,7 @@ struct Buffered {
     handle: StdoutHandle,
 }
 
-fn buffered(alloc: Global, sink: MemSink) -> Result<Buffered, OutOfMemory> {
+fn buffered_output(alloc: Global, sink: MemSink) -> Result<Buffered, OutOfMemory> {
     Ok(Buffered {
         turns: Turns::new(alloc),
         stream: AsyncWriteStream::new(alloc, 8, sink)?,
@@ -78,7 +78,7 @@ fn poll(
 #[test]
 fn a_pending_flush_takes_no_piece(rt: HostRuntime) -> Result<(), Fail> {
     let alloc = rt.alloc();
-    let mut output = buffered(alloc, sink(alloc, 64, &[])?)?;
+    let mut output = buffered_output(alloc, sink(alloc, 64, &[])?)?;
     let mut consumer = OutputStreamConsumer::new();
     let answer = poll(alloc, &mut consumer, &mut output, b"abc", false)?;
     assert_eq!(&rt; answer, consumed(StreamResult::Pending, 3));
@@ -101,7 +101,7 @@ fn a_pending_flush_takes_no_piece(rt: HostRuntime) -> Result<(), Fail> {
 #[test]
 fn a_flush_is_cancelled_under_finish(rt: HostRuntime) -> Result<(), Fail> {
     let alloc = rt.alloc();
-    let mut output = buffered(alloc, sink(alloc, 64, &[])?)?;
+    let mut output = buffered_output(alloc, sink(alloc, 64, &[])?)?;
     let mut consumer = OutputStreamConsumer::new();
     let answer = poll(alloc, &mut consumer, &mut output, b"abc", true)?;
     assert_eq!(&rt; answer, consumed(StreamResult::Cancelled, 3));
@@ -122,7 +122,7 @@ fn a_fault_of_a_write_is_told_with_the_flush(rt: HostRuntime) -> Result<(), Fail
         64,
         &[SinkPlan::Take(1), SinkPlan::Fail(IoKind::Other)],
     )?;
-    let mut output = buffered(alloc, fails)?;
+    let mut output = buffered_output(alloc, fails)?;
     let mut consumer = OutputStreamConsumer::new();
     let answer = poll(alloc, &mut consumer, &mut output, b"abc", false)?;
     assert_eq!(&rt; answer, consumed(StreamResult::Pending, 3));
