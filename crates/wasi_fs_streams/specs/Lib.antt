@@ -1,0 +1,4 @@
+pub mod Reads
+pub mod WriteStreams
+pub mod Opening
+pub mod Directories

@@ -1,0 +1,15 @@
+//! Files and directories as streams of WASI 0.3, over any store of files.
+#![tactic(auto)]
+
+mod directory;
+mod fetch;
+mod open;
+mod read;
+#[cfg(test)]
+mod tests;
+mod write;
+
+pub use directory::{DirectoryStream, directory_stream};
+pub use open::FileStreams;
+pub use read::ReadStreamProducer;
+pub use write::WriteStreamConsumer;
