@@ -19,8 +19,7 @@ use wasi_fs_types::{ErrorCode, FilesystemResult, FsPerms, OpenMode};
 /// stream that ended with it.
 pub trait FileStreams {
     /// A file's bytes from an offset on.
-    fn read_via_stream(&self, at: &Descriptor, offset: u64)
-    -> FilesystemResult<ReadStreamProducer>;
+    fn read_via_stream(&self, at: &Descriptor, offset: u64) -> FilesystemResult<ReadStreamProducer>;
 
     /// Writes to a file from an offset on.
     fn write_via_stream(

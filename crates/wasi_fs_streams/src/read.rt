@@ -60,12 +60,7 @@ impl ReadStreamProducer {
     }
 
     // what a read gave goes out
-    fn hand_out(
-        &mut self,
-        file: File,
-        offset: u64,
-        outcome: Result<Bytes, ErrorCode>,
-    ) -> Produced
+    fn hand_out(&mut self, file: File, offset: u64, outcome: Result<Bytes, ErrorCode>) -> Produced
         ensures { handed_out file offset outcome ≡ (result, self.new) }
     {
         let bytes = match outcome {
@@ -114,6 +109,7 @@ impl ReadStreamProducer {
         ensures cause { IfOk result (λ p. OnCode (read_made (T.told store.old) (T.contents store.old) room self.old) (Rose (T.told store.old).faults (T.told store.new).faults)) }
         ensures same { (f : ℕ) → T.contents store.new f ≡ T.contents store.old f }
         ensures files { (f : ℕ) → T.is_file store.old f → T.is_file store.new f }
+        ensures goes_on { ReadsFile (T.is_file store.new) self.new }
         ensures later { (T.told store.old).faults ≤ (T.told store.new).faults }
         ensures memory { OnErr result ((self.new ≡ self.old) × (store.new ≡ store.old)) }
     {

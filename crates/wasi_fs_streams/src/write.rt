@@ -115,6 +115,7 @@ impl WriteStreamConsumer {
         ensures leaves { IfOk result (λ c. store.new ≡ after_write_polled T.met T.with_contents (T.told store.old) (T.contents store.old) piece.now store.old self.old) }
         ensures cause { IfOk result (λ c. OnFaultOf (T.told store.old) (T.contents store.old) piece.now self.old (Rose (T.told store.old).faults (T.told store.new).faults)) }
         ensures files { (f : ℕ) → T.is_file store.old f → T.is_file store.new f }
+        ensures goes_on { WritesFile (T.is_file store.new) self.new }
         ensures later { (T.told store.old).faults ≤ (T.told store.new).faults }
         ensures memory { OnErr result ((self.new ≡ self.old) × (store.new ≡ store.old)) }
     {
