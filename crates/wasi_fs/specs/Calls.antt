@@ -48,6 +48,11 @@ file_added nodes path bytes now = added nodes path (λ dir. new_file bytes (time
 abbrev pub link_added : List Node → List ℕ → List ℕ → WallTime → Result (List Node) ErrorCode
 link_added nodes path text now = added nodes path (λ dir. new_link text (time_of now))
 
+-- .. and whether it would be added, with the code where not
+abbrev pub allowed : {A : Type 0} → Result A ErrorCode → Result (Unit {0}) ErrorCode
+allowed (Ok a) = Ok tt
+allowed (Err code) = Err code
+
 -- SET-SIZE
 abbrev pub size_set : List Node → Descriptor → ℕ → Result (List Node) ErrorCode
 size_set nodes at size = then (as_file at) (λ file.

@@ -1,5 +1,6 @@
-ghost use Rattle.std.specs.Prelude.{◌≡◌};
-ghost use Rattle.wasi_fs.specs.Calls.{added, directory_added, file_added, link_added};
+ghost use Rattle.std.specs.Prelude.{◌≡◌, ℕ, List, length};
+ghost use Rattle.wasi_clocks.specs.declared.wall_times.WallTime.{WallTime};
+ghost use Rattle.wasi_fs.specs.Calls.{added, allowed, directory_added, file_added, link_added};
 ghost use Rattle.wasi_fs.specs.Making.{node_for};
 ghost use Rattle.wasi_fs.specs.Outcome.{Leaves};
 ghost use Rattle.wasi_fs.specs.Trees.{KeepsDescriptors};
@@ -10,7 +11,7 @@ use crate::times::time_of;
 use crate::tree::Tree;
 use wasi_clocks::{Datetime, WallTime};
 use wasi_fs_nodes::kinds_stay;
-use wasi_fs_types::FilesystemResult;
+use wasi_fs_types::{ErrorCode, FilesystemResult};
 
 impl Tree {
     fn add(&mut self, path: &str, new: New<'_>, time: Option<Datetime>) -> FilesystemResult<()>
@@ -25,6 +26,20 @@ impl Tree {
         ensures { Leaves self.old self.new result (added self.old.nodes path.now (node_for new.entry time)) }
     {
         done(making::add(&mut self.nodes, path, new, time))
+    }
+
+    /// Whether a node may be added at a path from the root: a file of so many bytes, or a directory
+    /// or a link, which count as none. It changes nothing, and takes no memory.
+    ///
+    /// # Errors
+    ///
+    /// The refusal that `add_file`, `add_dir` or `add_link` would answer.
+    pub fn may_add(&self, path: &str, size: u64) -> Result<(), ErrorCode>
+        ensures file { (bytes : List ℕ) (now : WallTime) → length bytes ≡ size → result ≡ allowed (file_added self.now.nodes path.now bytes now) }
+        ensures directory { (now : WallTime) → size ≡ 0 → result ≡ allowed (directory_added self.now.nodes path.now now) }
+        ensures link { (text : List ℕ) (now : WallTime) → size ≡ 0 → result ≡ allowed (link_added self.now.nodes path.now text now) }
+    {
+        making::may_add(self.nodes(), path, size)
     }
 
     /// A new directory at a path from the root.

@@ -1,6 +1,8 @@
 ghost use Rattle.std.specs.Prelude.{ℕ, Bool, List, Result, IfOk};
 ghost use Rattle.wasi_clocks.specs.declared.wall_times.WallTime.{WallTime};
 ghost use Rattle.wasi_fs_types.specs.declared.descriptor.NewTimestamp.{NewTimestamp};
+ghost use Rattle.wasi_fs_types.specs.declared.flags.DescriptorFlags.{DescriptorFlags};
+ghost use Rattle.wasi_fs_types.specs.declared.flags.OpenFlags.{OpenFlags};
 ghost use Rattle.wasi_fs_types.specs.declared.flags.PathFlags.{PathFlags};
 ghost use Rattle.wasi_fs_types.specs.declared.error_code.ErrorCode.{ErrorCode};
 ghost use Rattle.wasi_fs_nodes.specs.declared.store_error.StoreError.{StoreError};
@@ -8,9 +10,10 @@ ghost use Rattle.wasi_fs_nodes.specs.Shape.{KindsStay};
 ghost use Rattle.wasi_fs_nodes.specs.Writes.{Write};
 ghost use Rattle.wasi_fs_nodes.specs.declared.node.Node.{Node};
 ghost use Rattle.wasi_fs.specs.Calls.{size_set, times_set, times_set_at, directory_created, symlink_made, link_made, removed, file_unlinked, node_renamed};
+ghost use Rattle.wasi_fs.specs.Opening.{opened};
 ghost use Rattle.wasi_fs.specs.Stores.{after_read, after_write, unless_no_memory};
 ghost use Rattle.wasi_fs.specs.TreeStore.{with_file};
-ghost use Rattle.wasi_fs.specs.Trees.{TreeState, after_fault, KeepsDescriptors};
+ghost use Rattle.wasi_fs.specs.Trees.{TreeState, with_nodes, after_fault, IsOf, KeepsDescriptors};
 ghost use Rattle.wasi_fs.specs.declared.descriptor.Descriptor.{Descriptor};
 
 use wasi_fs_nodes::kinds_stay;
@@ -27,6 +30,14 @@ pub fn calls_keep_kinds()
     ensures remove { (nodes : List Node) (at : Descriptor) (path : List ℕ) → IfOk (removed nodes at path) (KindsStay nodes) }
     ensures unlink { (nodes : List Node) (at : Descriptor) (path : List ℕ) → IfOk (file_unlinked nodes at path) (KindsStay nodes) }
     ensures rename { (below : ℕ → ℕ → Bool) (nodes : List Node) (at : Descriptor) (path : List ℕ) (to : Descriptor) (to_path : List ℕ) → IfOk (node_renamed below nodes at path to to_path) (KindsStay nodes) }
+{
+    kinds_stay();
+}
+
+/// A law: whatever is opened, each node stays what it is, and what is opened is of the tree.
+pub fn openings_keep_kinds()
+    ensures kinds { (nodes : List Node) (at : Descriptor) (path_flags : PathFlags) (path : List ℕ) (how : OpenFlags) (flags : DescriptorFlags) (now : WallTime) (blocking : Bool) → IfOk (opened nodes at path_flags path how flags now blocking) (λ it. KindsStay nodes it.1) }
+    ensures of_tree { (tree : TreeState) (at : Descriptor) → IsOf tree at → (path_flags : PathFlags) (path : List ℕ) (how : OpenFlags) (flags : DescriptorFlags) (now : WallTime) (blocking : Bool) → IfOk (opened tree.nodes at path_flags path how flags now blocking) (λ it. IsOf (with_nodes tree it.1) it.0) }
 {
     kinds_stay();
 }

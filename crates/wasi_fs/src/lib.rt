@@ -22,7 +22,7 @@ mod writable;
 
 pub use descriptor::{Descriptor, Dir, File};
 pub use entries::{DirectoryEntries, DirectoryEntry};
-pub use laws::{calls_keep_kinds, stores_keep_descriptors};
+pub use laws::{calls_keep_kinds, openings_keep_kinds, stores_keep_descriptors};
 pub use list::map_dir_entry;
 pub use memory_store::MemStore;
 pub use store::Store;

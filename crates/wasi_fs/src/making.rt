@@ -1,10 +1,11 @@
-ghost use Rattle.std.specs.Prelude.{◌≡◌, Some};
+ghost use Rattle.std.specs.Prelude.{◌≡◌, ℕ, length, Some};
 ghost use Rattle.wasi_fs_nodes.specs.Changes.{made};
-ghost use Rattle.wasi_fs_nodes.specs.Nodes.{kind_at};
+ghost use Rattle.wasi_fs_nodes.specs.Nodes.{bytes_in, kind_at};
 ghost use Rattle.wasi_fs_nodes.specs.Outcome.{Leaves};
 ghost use Rattle.wasi_fs_nodes.specs.declared.node.Kind.TheVariants.{Directory};
+ghost use Rattle.wasi_fs_nodes.specs.declared.node.Node.{Node};
 ghost use Rattle.wasi_fs_paths.specs.Places.{IsPlace, place_of};
-ghost use Rattle.wasi_fs.specs.Calls.{added_at, added, made_at};
+ghost use Rattle.wasi_fs.specs.Calls.{added_at, added, allowed, made_at};
 ghost use Rattle.wasi_fs.specs.Making.{node_for};
 
 use wasi_clocks::Datetime;
@@ -99,5 +100,26 @@ pub(crate) fn add(
     match resolve(nodes, root, THERE_OR_NEW, path) {
         Ok(place) => add_at(nodes, has_trailing_slash(path), place, new, time),
         Err(code) => Err(StoreError::Code(code)),
+    }
+}
+
+/// Whether a new node of so many bytes may stand at a place whose path had a trailing `/` or none.
+fn may_add_at(nodes: &Nodes, slash: bool, place: Place<'_>, size: u64) -> Result<(), ErrorCode>
+    ensures { (node : ℕ → Node) → ((dir : ℕ) → length (bytes_in (node dir).body) ≡ size) → result ≡ allowed (added_at nodes.now slash node (place_of place.entry)) }
+{
+    match place {
+        Place::Inside(_) | Place::Named(_, _, Some(_)) => Err(ErrorCode::Exist),
+        Place::Named(_, _, None) if slash => Err(ErrorCode::Invalid),
+        Place::Named(dir, name, None) => nodes.may_make(dir, name, size),
+    }
+}
+
+/// Whether a new node of so many bytes may stand at a path from the root.
+pub(crate) fn may_add(nodes: &Nodes, path: &str, size: u64) -> Result<(), ErrorCode>
+    ensures { (node : ℕ → Node) → ((dir : ℕ) → length (bytes_in (node dir).body) ≡ size) → result ≡ allowed (added nodes.now path.now node) }
+{
+    match resolve(nodes, nodes.root(), THERE_OR_NEW, path) {
+        Ok(place) => may_add_at(nodes, has_trailing_slash(path), place, size),
+        Err(code) => Err(code),
     }
 }

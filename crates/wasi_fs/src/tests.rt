@@ -230,9 +230,20 @@ fn additions_that_are_refused(rt: HostRuntime) {
         ("x/", ErrorCode::Invalid),
     ];
     for (path, code) in rows {
+        assert_eq!(rt; tree.may_add(path, 0), Err(code), "{path}");
         let refused = code_of(tree.add_dir(path, epoch()));
         assert_eq!(rt; refused, Some(code), "{path}");
     }
+}
+
+#[test]
+fn a_file_that_may_be_added(rt: HostRuntime) {
+    let tree = small_tree(&rt, rt.alloc());
+    assert_eq!(rt; tree.may_add("x", 1_048_576), Ok(()));
+    let large = tree.may_add("x", 1_048_577);
+    assert_eq!(rt; large, Err(ErrorCode::FileTooLarge));
+    let slash = tree.may_add("x/", 1_048_577);
+    assert_eq!(rt; slash, Err(ErrorCode::Invalid));
 }
 
 #[test]

@@ -11,7 +11,7 @@ use Rattle.wasi_fs_nodes.specs.Nodes.{kind_at, is_directory, names_at, entry_at,
 use Rattle.wasi_fs_nodes.specs.Changes.{renamed, renamed_onto, is_node, target_refusal, moved}
 use Rattle.wasi_fs_nodes.specs.Outcome.{unless, unless_some}
 use Rattle.wasi_fs_nodes.specs.Shape.{IsSound}
-use Rattle.wasi_fs_nodes.specs.laws.Climbs.{climbs_to, climbs}
+use Rattle.wasi_fs_nodes.specs.Climbs.{climbs_to, climbs}
 use Rattle.wasi_fs_nodes.specs.declared.node.Node.{Node}
 use Rattle.wasi_fs_nodes.specs.declared.node.Kind.TheVariants as kinds
 use Rattle.wasi_fs_nodes.proofs.NodeFacts.{some_links}

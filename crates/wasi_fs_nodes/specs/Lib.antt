@@ -9,4 +9,4 @@ pub mod Shape
 pub mod Changes
 pub mod Stats
 pub mod Counts
-pub mod laws
+pub mod Climbs

@@ -3,7 +3,7 @@ ghost use Rattle.wasi_fs_nodes.specs.Nodes.{kind_at, bytes_at, entry_at, total_b
 ghost use Rattle.wasi_fs_nodes.specs.Outcome.{Leaves, LeavesAlways};
 ghost use Rattle.wasi_fs_nodes.specs.Changes.{may_make, made, new_file, new_directory, new_link, linked, unlinked, directory_removed, renamed, target_refusal, moved, limits_of, sized, nodes_after, wrote};
 ghost use Rattle.wasi_fs_nodes.specs.Writes.{written_from};
-ghost use Rattle.wasi_fs_nodes.specs.laws.Climbs.{climbs};
+ghost use Rattle.wasi_fs_nodes.specs.Climbs.{climbs};
 
 use crate::content::Content;
 use crate::names::Names;
@@ -24,8 +24,12 @@ const TREE_LIMIT: u64 = 67_108_864;
 const NODE_LIMIT: u64 = 65_536;
 
 impl Nodes {
-    /// Whether a new node of so many bytes may stand under a name.
-    fn may_make(&self, dir: u64, name: &str, size: u64) -> Result<(), ErrorCode>
+    /// Whether a new node of so many bytes may stand under a name. A directory and a link have none.
+    ///
+    /// # Errors
+    ///
+    /// The refusal that `make_file`, `make_directory` or `make_link` would answer.
+    pub fn may_make(&self, dir: u64, name: &str, size: u64) -> Result<(), ErrorCode>
         ensures gives { result ≡ may_make self.now dir name.now size }
         ensures absent { OnOk result (entry_at self.now dir name.now ≡ None) }
         ensures few { OnOk result (length self.now < 65536) }

@@ -1,15 +1,16 @@
 ghost use Rattle.std.specs.Prelude.{◌≡◌, ℕ, Bool, List, Option, IfOk};
 ghost use Rattle.wasi_clocks.specs.declared.datetimes.Datetime.{Datetime};
 ghost use Rattle.wasi_fs_nodes.specs.Bodies.{with_size, with_times};
+ghost use Rattle.wasi_fs_nodes.specs.Climbs.{climbs};
 ghost use Rattle.wasi_fs_nodes.specs.Changes.{made, linked, unlinked, directory_removed, renamed, sized, wrote};
 ghost use Rattle.wasi_fs_nodes.specs.Nodes.{TellsBelow};
 ghost use Rattle.wasi_fs_nodes.specs.Shape.{IsSound, KindsStay};
 ghost use Rattle.wasi_fs_nodes.specs.declared.at.At.{At};
 ghost use Rattle.wasi_fs_nodes.specs.declared.node.Node.{Node};
 
-/// A law: in a sound tree there is a test that tells which directories lie below which.
+/// A law: in a sound tree the way up by the parents tells which directories lie below which.
 pub fn below_is_told()
-    ensures { (nodes : List Node) → IsSound nodes → (below : ℕ → ℕ → Bool) × TellsBelow nodes below }
+    ensures { (nodes : List Node) → IsSound nodes → TellsBelow nodes (climbs nodes) }
 {}
 
 /// A law: whatever the change, each node stays what it is, a file, a directory or a link, also

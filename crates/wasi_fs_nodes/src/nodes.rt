@@ -4,7 +4,7 @@ ghost use Rattle.wasi_fs_nodes.specs.Names.{IsAscending, has_no_names};
 ghost use Rattle.wasi_fs_nodes.specs.Nodes.{names_at, kind_at, is_directory, entry_at, parent_at, links_of, total_bytes, is_removed, bytes_at, text_at};
 ghost use Rattle.wasi_fs_nodes.specs.Shape.{IsSound};
 ghost use Rattle.wasi_fs_nodes.specs.Stats.{stat_at, pairs_of};
-ghost use Rattle.wasi_fs_nodes.specs.laws.Climbs.{climbs};
+ghost use Rattle.wasi_fs_nodes.specs.Climbs.{climbs};
 
 use crate::node::Kind;
 use crate::rows::Row;

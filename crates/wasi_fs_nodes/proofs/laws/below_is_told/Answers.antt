@@ -1,6 +1,5 @@
-use Rattle.wasi_fs_nodes.specs.laws.Climbs.{climbs}
 use Rattle.wasi_fs_nodes.proofs.BelowFacts.{tells}
 use Rattle.wasi_fs_nodes.proofs.laws.below_is_told.Goals as goal
 
 pub returns : goal.returns
-returns c nodes sound = (climbs nodes, tells nodes sound)
+returns c = tells

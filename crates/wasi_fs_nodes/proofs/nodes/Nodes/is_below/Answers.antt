@@ -1,5 +1,5 @@
 use Rattle.std.proofs.Common.{◌-◌, ◌+◌, ap, ◌∙◌, length, arith}
-use Rattle.wasi_fs_nodes.specs.laws.Climbs.{climbs_to}
+use Rattle.wasi_fs_nodes.specs.Climbs.{climbs_to}
 use Rattle.wasi_fs_nodes.proofs.BelowFacts.{climbs_on}
 use Rattle.wasi_fs_nodes.proofs.nodes.Nodes.is_below.Goals as goal
 

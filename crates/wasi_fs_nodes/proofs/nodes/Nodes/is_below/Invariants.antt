@@ -1,5 +1,5 @@
 use Rattle.std.proofs.Common.{◌≡◌, ◌-◌, length}
-use Rattle.wasi_fs_nodes.specs.laws.Climbs.{climbs_to, climbs}
+use Rattle.wasi_fs_nodes.specs.Climbs.{climbs_to, climbs}
 use Rattle.wasi_fs_nodes.proofs.nodes.Nodes.is_below.Given as goal
 
 abbrev pub invariant-loop : goal.invariant-loop

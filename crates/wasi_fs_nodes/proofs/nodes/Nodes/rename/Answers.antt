@@ -1,7 +1,7 @@
 use Rattle.std.proofs.Common.{List, Result, subst}
 use Rattle.wasi_fs_types.specs.declared.error_code.ErrorCode.{ErrorCode}
 use Rattle.wasi_fs_nodes.specs.Outcome.{Leaves}
-use Rattle.wasi_fs_nodes.specs.laws.Climbs.{climbs}
+use Rattle.wasi_fs_nodes.specs.Climbs.{climbs}
 use Rattle.wasi_fs_nodes.specs.declared.node.Node.{Node}
 use Rattle.wasi_fs_nodes.proofs.BelowFacts.{tells, renamed_same}
 use Rattle.wasi_fs_nodes.proofs.nodes.Nodes.rename.Goals as goal

@@ -1,4 +1,4 @@
--- How the code tells whether a directory lies below another: it goes up by the parents that directories name.
+-- Whether a directory lies below another, told by going up by the parents that directories name.
 use Rattle.std.specs.Prelude.{ℕ, zero, suc, List, length, Bool, true, false, cond, eqb}
 use Rattle.wasi_fs_nodes.specs.Nodes.{links_of, parent_at}
 use Rattle.wasi_fs_nodes.specs.declared.node.Node.{Node}
