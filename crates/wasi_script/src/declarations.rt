@@ -235,7 +235,8 @@ impl Declarations {
                 self.inputs.add(alloc, name.as_bytes(), input_flags(input))?;
             }
             Line::Output { name, output } => {
-                self.outputs.add(alloc, name.as_bytes(), output_flags(output))?;
+                self.outputs
+                    .add(alloc, name.as_bytes(), output_flags(output))?;
             }
             Line::Guest { guest, input: _ } => self.declared[*guest as usize] = true,
             Line::Call { guest, call: _ } => self.called[*guest as usize] = true,

@@ -60,14 +60,20 @@ impl NameSet {
     pub fn has_task(&self, name: &[u8]) -> bool
         ensures { result ≡ task_at self.now name.now }
     {
-        self.names.get(name).is_some_and(|flags| flags.has_task)
+        match self.names.get(name) {
+            Some(flags) => flags.has_task,
+            None => false,
+        }
     }
 
     /// Whether there is a stream of this name that is a standard output of the host's process.
     pub fn has_stdio(&self, name: &[u8]) -> bool
         ensures { result ≡ stdio_at self.now name.now }
     {
-        self.names.get(name).is_some_and(|flags| flags.is_stdio)
+        match self.names.get(name) {
+            Some(flags) => flags.is_stdio,
+            None => false,
+        }
     }
 
     /// Adds a new name.
