@@ -1,6 +1,6 @@
 -- What each call asks to be done, and what it leaves of what its entry is on: a rule of its own for each kind of entry.
 -- A rule sees no more than what its entry is on, and none gives back its guest's settings.
-use Rattle.std.specs.Prelude.{ℕ, false, List, Some, None, Result, Ok, Err}
+use Rattle.std.specs.Prelude.{ℕ, Bool, true, false, cond, List, Option, Some, None, Result, Ok, Err}
 use Rattle.wasi_base.specs.declared.polled.Polled.{Polled as Poll}
 use Rattle.wasi_base.specs.declared.polled.Polled.TheVariants as polled
 use Rattle.wasi_base.specs.declared.stream_error.StreamError.{StreamError}
@@ -13,6 +13,8 @@ use Rattle.wasi_clocks.specs.Waits.{wait_to, wait_after, wait_is_ready}
 use Rattle.wasi_clocks.specs.Instants.{instant_of_wall, nanoseconds_in}
 use Rattle.wasi_script.specs.declared.lines.Input.{Input}
 use Rattle.wasi_script.specs.declared.lines.Input.TheVariants as input
+use Rattle.wasi_script.specs.declared.lines.Output.{Output}
+use Rattle.wasi_script.specs.declared.lines.Output.TheVariants as output
 use Rattle.wasi_script.specs.declared.lines.Standard.{Standard}
 use Rattle.wasi_script.specs.declared.lines.Standard.TheVariants as standard
 use Rattle.wasi_script.specs.declared.lines.Access.{Access}
@@ -110,7 +112,29 @@ stream_entry access.Polled = on.Polled (record { handle = Ready; flushing = fals
 
 abbrev pub opened : Input → Standard → Access → Entry
 opened input.Shared standard.Input how = entry.Shared (shared_entry how)
+opened input.Terminal standard.Input how = entry.Shared (shared_entry how)
 opened other it how = entry.Stream it (stream_entry how)
+
+-- ---- .. or it asks for the terminal that one of them is
+abbrev pub in_terminal : Input → Bool
+in_terminal input.Terminal = true
+in_terminal other = false
+
+abbrev pub out_terminal : Output → Bool
+out_terminal (output.Terminal name) = true
+out_terminal other = false
+
+abbrev pub is_terminal : Standard → Settings → Bool
+is_terminal standard.Input settings = in_terminal settings.input
+is_terminal standard.Output settings = out_terminal settings.stdout
+is_terminal standard.Error settings = out_terminal settings.stderr
+
+abbrev pub terminal_entry : Standard → OwnEntry
+terminal_entry standard.Input = kept.TerminalInput (record {})
+terminal_entry other = kept.TerminalOutput (record {})
+
+abbrev pub opened_terminal : Standard → Settings → Deed
+opened_terminal it settings = cond (is_terminal it settings) (Make (entry.Own (terminal_entry it)) None) (Tell told.Absent)
 
 -- ---- calls on the shared input, by its table; a polled read and a block keep their wait in their entry
 abbrev pub asked : EntryCall → Owner → SharedEntry → Shared → Doing Shared
@@ -182,7 +206,14 @@ abbrev pub exit_status : ExitStatus → ℕ
 exit_status exit.Ok = 0
 exit_status exit.Err = 1
 
+abbrev pub cwd_told : Option (List ℕ) → Told
+cwd_told None = told.Absent
+cwd_told (Some cwd) = told.Cwd cwd
+
 abbrev pub owned : Clocks → OwnCall → Settings → Own → Deed
 owned clocks (own.Exit status) settings it = Tell (told.Exit (exit_status status))
 owned clocks (own.ExitCode code) settings it = Tell (told.Exit code)
 owned clocks (own.Clock call) settings it = clocked clocks call
+owned clocks own.Environment settings it = Tell (told.Environment settings.environment)
+owned clocks own.Arguments settings it = Tell (told.Arguments settings.arguments)
+owned clocks own.InitialCwd settings it = Tell (cwd_told settings.initial_cwd)

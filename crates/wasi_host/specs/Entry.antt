@@ -23,3 +23,5 @@ kind_of (entry.Shared (shared.Pollable wait)) = 2
 kind_of (entry.Stream to it) = stream_kind to it
 kind_of (entry.Own (own.Deadline it)) = 5
 kind_of (entry.Own (own.Wait it)) = 6
+kind_of (entry.Own (own.TerminalInput it)) = 7
+kind_of (entry.Own (own.TerminalOutput it)) = 8

@@ -66,7 +66,7 @@ use Rattle.wasi_host.specs.Tasks.{Turned, input_turned, output_turned}
 use Rattle.wasi_host.specs.Clocks.{Clocks, new_clocks, clocks_after}
 use Rattle.wasi_random.specs.Known.{of_bytes, of_number}
 use Rattle.wasi_host.specs.Random.{Sources, Drawn, new_sources, with_source, drawn}
-use Rattle.wasi_host.specs.Calls.{Settings, Owner, Doing, opened, asked, called, sent, awaited, owned}
+use Rattle.wasi_host.specs.Calls.{Settings, Owner, Doing, opened, opened_terminal, asked, called, sent, awaited, owned}
 
 -- a guest: what configuration lines say of it, what it owns, its random sources, and whether it was called and whether
 -- it ended
@@ -77,10 +77,10 @@ pub record Guest : Type 0 where
   pub was_called : Bool
   pub ended : Bool
 
--- a guest has room for 1024 entries, its outputs go nowhere, it may ask for 67108864 random bytes at a time, and its seed
--- for insecure uses is 0, unless lines say otherwise
+-- a guest has room for 1024 entries, its outputs go nowhere, its environment and its arguments are empty, it begins in no
+-- directory, it may ask for 67108864 random bytes at a time, and its seed for insecure uses is 0, unless lines say otherwise
 abbrev pub new_guest : Input → Guest
-new_guest input = record { settings = record { input = input; stdout = output.Empty; stderr = output.Empty; insecure_seed = 0; most_random = 67108864 }; own = record { table = new_table 1024 }; sources = new_sources; was_called = false; ended = false }
+new_guest input = record { settings = record { input = input; stdout = output.Empty; stderr = output.Empty; environment = []; arguments = []; initial_cwd = None; insecure_seed = 0; most_random = 67108864 }; own = record { table = new_table 1024 }; sources = new_sources; was_called = false; ended = false }
 
 abbrev pub configured : Setting → Guest → Guest
 configured (setting.Stdout it) guest = record guest { settings = record guest.settings { stdout = it } }
@@ -89,6 +89,9 @@ configured (setting.Capacity capacity) guest = record guest { own = record { tab
 configured (setting.Random from bytes) guest = record guest { sources = with_source from (of_bytes bytes) guest.sources }
 configured (setting.Seeded from seed) guest = record guest { sources = with_source from (of_number seed) guest.sources }
 configured (setting.InsecureSeed seed) guest = record guest { settings = record guest.settings { insecure_seed = seed } }
+configured (setting.Env key value) guest = record guest { settings = record guest.settings { environment = guest.settings.environment ++ (key, value) ∷ [] } }
+configured (setting.Arg text) guest = record guest { settings = record guest.settings { arguments = guest.settings.arguments ++ text ∷ [] } }
+configured (setting.Cwd text) guest = record guest { settings = record guest.settings { initial_cwd = Some text } }
 configured (setting.MaxRandom size) guest = record guest { settings = record guest.settings { most_random = size } }
 
 -- ---- the declared streams with their names, each list in order of declaration
@@ -119,10 +122,12 @@ put_input other it streams = streams
 abbrev pub output_at : Output → Streams → OutStream
 output_at output.Closed streams = out_stream.Closed
 output_at (output.Named name) streams = taken_out out_stream.Closed name streams.outputs
+output_at (output.Terminal name) streams = taken_out out_stream.Closed name streams.outputs
 output_at other streams = out_stream.Sink
 
 abbrev pub put_output : Output → OutStream → Streams → Streams
 put_output (output.Named name) it streams = record streams { outputs = put_back name it streams.outputs }
+put_output (output.Terminal name) it streams = record streams { outputs = put_back name it streams.outputs }
 put_output other it streams = streams
 
 -- ---- who leaves gives up its turns: of an entry that is dropped on the stream that it is on, of a guest that ends on each
@@ -223,6 +228,7 @@ on_sources it guest shared streams = settled (record guest { sources = it.left }
 -- by the kind of the call
 abbrev pub answer_to : CallRules → Call → ℕ → Guest → Shared → Streams → Answered
 answer_to rules (call.Open it how) g guest shared streams = settled guest (act (Make (opened guest.settings.input it how) None) guest.own) shared streams
+answer_to rules (call.Terminal it) g guest shared streams = settled guest (act (apart (opened_terminal it guest.settings)) guest.own) shared streams
 answer_to rules (call.On number it) g guest shared streams = answer_at rules it (record { guest = g; number = number }) (entry_at guest.own number) guest shared streams
 answer_to rules (call.Drop number) g guest shared streams = settled guest (dropped number guest.own) shared (leave_entry (leaver.Entry (record { guest = g; number = number })) (entry_at guest.own number) guest.settings streams)
 answer_to rules (call.Own it) g guest shared streams = settled guest (act (apart (rules.owned it guest.settings guest.own)) guest.own) shared streams
@@ -404,11 +410,19 @@ abbrev pub is_writer : Option OutStream → Bool
 is_writer (Some (out_stream.Buffered it)) = true
 is_writer other = false
 
+-- .. and which are standard outputs of the host's process
+abbrev pub is_process : Option OutStream → Bool
+is_process (Some (out_stream.Stdio it)) = true
+is_process other = false
+
 abbrev pub reads_ahead_in : Streams → List ℕ → Bool
 reads_ahead_in streams name = is_reader (lookup (bytes_eq name) streams.inputs)
 
 abbrev pub writes_behind_in : Streams → List ℕ → Bool
 writes_behind_in streams name = is_writer (lookup (bytes_eq name) streams.outputs)
+
+abbrev pub has_stdio_in : Streams → List ℕ → Bool
+has_stdio_in streams name = is_process (lookup (bytes_eq name) streams.outputs)
 
 abbrev pub names_of : Host → Names
 names_of host = record {
@@ -418,6 +432,7 @@ names_of host = record {
   outputs = names_in host.streams.outputs;
   reads_ahead = reads_ahead_in host.streams;
   writes_behind = writes_behind_in host.streams;
+  has_stdio = has_stdio_in host.streams;
 }
 
 -- a step may stand after what the host holds

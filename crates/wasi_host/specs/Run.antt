@@ -290,6 +290,7 @@ WorkerRule turn.Deliver s answer s' = DeliverRule s.captured s answer s'
 -- which guests read the shared input
 abbrev pub is_shared : Input → Bool
 is_shared from.Shared = true
+is_shared from.Terminal = true
 is_shared other = false
 
 abbrev pub setting_row : Setting → ℕ → Sharing → Sharing

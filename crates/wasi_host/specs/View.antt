@@ -25,6 +25,7 @@ input_names other name = false
 
 abbrev pub output_names : Output → List ℕ → Bool
 output_names (output.Named it) name = bytes_eq it name
+output_names (output.Terminal it) name = bytes_eq it name
 output_names other name = false
 
 abbrev pub setting_names : Setting → List ℕ → Bool

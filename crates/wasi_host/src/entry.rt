@@ -2,7 +2,7 @@ ghost use Rattle.std.specs.Prelude.{◌≡◌, Some};
 ghost use Rattle.wasi_host.specs.Entry.{stream_kind};
 ghost use Rattle.wasi_host.specs.Deeds.{stands_alone, goes_under, may_change, same_standard, is_shared};
 
-use wasi_cli::StdoutHandle;
+use wasi_cli::{StdoutHandle, TerminalInput, TerminalOutput};
 use wasi_clocks::{Deadline, Wait3};
 use wasi_script::Standard;
 use wasi_stdin::Wait;
@@ -31,13 +31,17 @@ pub enum StreamEntry {
     Pollable,
 }
 
-/// An entry that is on no stream: what its guest waits for on the monotonic clock.
+/// An entry that is on no stream: what its guest waits for on the monotonic clock, or a terminal.
 #[derive(Clone, Copy, Debug, PartialEq, Eq, Drop)]
 pub enum OwnEntry {
     /// Of WASI 0.2.
     Deadline(Deadline),
     /// Of WASI 0.3.
     Wait(Wait3),
+    /// The terminal that its standard input is.
+    TerminalInput(TerminalInput),
+    /// The terminal that one of its outputs is.
+    TerminalOutput(TerminalOutput),
 }
 
 /// What stands at a number of a guest's: it says what it is on.
@@ -75,6 +79,12 @@ impl Entry {
 
     /// The kind of a wait.
     pub const WAIT: u32 = 6;
+
+    /// The kind of a terminal as an input.
+    pub const TERMINAL_INPUT: u32 = 7;
+
+    /// The kind of a terminal as an output.
+    pub const TERMINAL_OUTPUT: u32 = 8;
 
     /// Whether an entry has no parent.
     pub fn stands_alone(&self) -> bool
@@ -154,6 +164,8 @@ impl Kinded for Entry {
             Entry::Stream { stream, entry } => stream_kind(*stream, *entry),
             Entry::Own(OwnEntry::Deadline(_)) => Entry::DEADLINE,
             Entry::Own(OwnEntry::Wait(_)) => Entry::WAIT,
+            Entry::Own(OwnEntry::TerminalInput(_)) => Entry::TERMINAL_INPUT,
+            Entry::Own(OwnEntry::TerminalOutput(_)) => Entry::TERMINAL_OUTPUT,
         }
     }
 }

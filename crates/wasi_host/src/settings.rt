@@ -1,3 +1,4 @@
+use wasi_cli::{ArgList, CwdText, EnvList};
 use wasi_script::{Input, Output};
 
 /// What configuration lines say of a guest, which no call changes.
@@ -6,6 +7,10 @@ pub struct Settings {
     pub input: Input,
     pub stdout: Output,
     pub stderr: Output,
+    pub environment: EnvList,
+    pub arguments: ArgList,
+    /// The directory in which it begins, where it has one.
+    pub initial_cwd: Option<CwdText>,
     /// The seed for its insecure uses of random numbers.
     pub insecure_seed: u128,
     /// The most random bytes that it may ask for at a time.

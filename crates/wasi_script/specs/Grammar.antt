@@ -251,8 +251,8 @@ abbrev pub reading_of : List ℕ → Reading
 reading_of [] = Note
 reading_of (byte ∷ bytes) = cond (nat_eq byte 35) Note (step_or_invalid (line_of (words_of (byte ∷ bytes))))
 
--- What the lines so far declared: the guests, and which of them were called; the streams' names in order, and at which
--- of them a task reads ahead or writes behind.
+-- What the lines so far declared: the guests, and which of them were called; the streams' names in order, at which of
+-- them a task reads ahead or writes behind, and which are standard outputs of the host's process.
 pub record Names : Type 0 where
   pub is_guest : ℕ → Bool
   pub was_called : ℕ → Bool
@@ -260,6 +260,7 @@ pub record Names : Type 0 where
   pub outputs : List (List ℕ)
   pub reads_ahead : List ℕ → Bool
   pub writes_behind : List ℕ → Bool
+  pub has_stdio : List ℕ → Bool
 
 abbrev pub no_names : Names
 no_names = record {
@@ -269,6 +270,7 @@ no_names = record {
   outputs = [];
   reads_ahead = λ name. false;
   writes_behind = λ name. false;
+  has_stdio = λ name. false;
 }
 
 -- a name among others
@@ -287,6 +289,7 @@ input_stands names other = true
 -- .. and so are its outputs
 abbrev pub output_stands : Names → Output → Bool
 output_stands names (output.Named name) = is_among name names.outputs
+output_stands names (output.Terminal name) = names.has_stdio name
 output_stands names other = true
 
 abbrev pub setting_stands : Names → Setting → Bool
@@ -330,6 +333,11 @@ abbrev pub is_written_behind : OutputDeclaration → Bool
 is_written_behind (output_declaration.Buffered room plan budget) = true
 is_written_behind other = false
 
+-- .. and which are standard outputs of the host's process
+abbrev pub is_stdio : OutputDeclaration → Bool
+is_stdio (output_declaration.Stdio room plan) = true
+is_stdio other = false
+
 -- this is known of a guest, and of a name
 abbrev pub known : ℕ → Bool → (ℕ → Bool) → ℕ → Bool
 known guest it test number = cond (nat_eq number guest) it (test number)
@@ -342,7 +350,7 @@ named name it test other = cond (bytes_eq other name) it (test other)
 
 abbrev pub names_after : Names → Line → Names
 names_after names (line.Input name it) = record names { inputs = names.inputs ++ name ∷ []; reads_ahead = named name (is_read_ahead it) names.reads_ahead }
-names_after names (line.Output name it) = record names { outputs = names.outputs ++ name ∷ []; writes_behind = named name (is_written_behind it) names.writes_behind }
+names_after names (line.Output name it) = record names { outputs = names.outputs ++ name ∷ []; writes_behind = named name (is_written_behind it) names.writes_behind; has_stdio = named name (is_stdio it) names.has_stdio }
 names_after names (line.Guest guest it) = record names { is_guest = also guest names.is_guest }
 names_after names (line.Configure guest it) = names
 names_after names (line.Call guest it) = record names { was_called = also guest names.was_called }

@@ -1,10 +1,11 @@
 ghost use Rattle.std.specs.Prelude.{◌≡◌, ◌+◌, ◌<◌, length, slice_index_or, true, false, OnOk, OnErr};
-ghost use Rattle.wasi_script.specs.Grammar.{Names, may_stand, may_declare, budget_stands, may_set_up, input_stands, output_stands, setting_stands, turn_stands, is_read_ahead, is_written_behind, names_after, no_names, is_among};
+ghost use Rattle.wasi_script.specs.Grammar.{Names, may_stand, may_declare, budget_stands, may_set_up, input_stands, output_stands, setting_stands, turn_stands, names_after, no_names, is_among};
+ghost use Rattle.wasi_script.specs.Declarations.{input_flags, output_flags};
 ghost use Rattle.wasi_script.specs.declared.lines.Line.TheVariants as line;
 
 use crate::lines::{Input, InputDeclaration, Line, Output, OutputDeclaration, Setting, StreamTask};
 use crate::name::Name;
-use crate::name_set::NameSet;
+use crate::name_set::{NameSet, StreamFlags};
 use std::alloc::Global;
 use wasi_base::OutOfMemory;
 
@@ -41,6 +42,10 @@ pub trait Declared {
     /// Whether there is an output of this name that buffers what it accepts for a task.
     fn writes_behind(&self, name: &[u8]) -> bool
         ensures { result ≡ (names self.now).writes_behind name.now };
+
+    /// Whether there is an output of this name that is a standard output of the host's process.
+    fn has_stdio(&self, name: &[u8]) -> bool
+        ensures { result ≡ (names self.now).has_stdio name.now };
 
     /// Whether a line may stand after what was declared.
     final fn allow(&self, line: &Line) -> bool
@@ -85,6 +90,7 @@ pub trait Declared {
             Setting::Capacity(capacity) => 1 <= *capacity && *capacity <= 65536,
             Setting::Random { source: _, bytes } => 1 <= bytes.len(),
             Setting::Seeded { .. } | Setting::InsecureSeed(_) | Setting::MaxRandom(_) => true,
+            Setting::Env { .. } | Setting::Arg(_) | Setting::Cwd(_) => true,
         }
     }
 
@@ -93,7 +99,7 @@ pub trait Declared {
         ensures { result ≡ input_stands (names self.now) input.now }
     {
         match input {
-            Input::Shared | Input::Empty | Input::Closed => true,
+            Input::Shared | Input::Terminal | Input::Empty | Input::Closed => true,
             Input::Named(name) => self.has_input(name.as_bytes()),
         }
     }
@@ -105,6 +111,7 @@ pub trait Declared {
         match output {
             Output::Empty | Output::Sink | Output::Closed => true,
             Output::Named(name) => self.has_output(name.as_bytes()),
+            Output::Terminal(name) => self.has_stdio(name.as_bytes()),
         }
     }
 
@@ -131,16 +138,22 @@ fn has_budget(output: &OutputDeclaration) -> bool
     }
 }
 
-fn is_read_ahead(input: &InputDeclaration) -> bool
-    ensures { result ≡ is_read_ahead input.now }
+fn input_flags(input: &InputDeclaration) -> StreamFlags
+    ensures { result ≡ input_flags input.now }
 {
-    matches!(input, InputDeclaration::Async { .. })
+    StreamFlags {
+        has_task: matches!(input, InputDeclaration::Async { .. }),
+        is_stdio: false,
+    }
 }
 
-fn is_written_behind(output: &OutputDeclaration) -> bool
-    ensures { result ≡ is_written_behind output.now }
+fn output_flags(output: &OutputDeclaration) -> StreamFlags
+    ensures { result ≡ output_flags output.now }
 {
-    matches!(output, OutputDeclaration::Buffered { .. })
+    StreamFlags {
+        has_task: matches!(output, OutputDeclaration::Buffered { .. }),
+        is_stdio: matches!(output, OutputDeclaration::Stdio { .. }),
+    }
 }
 
 // a guest's flag
@@ -191,6 +204,10 @@ impl Declared for Declarations {
     fn writes_behind(&self, name: &[u8]) -> bool {
         self.outputs.has_task(name)
     }
+
+    fn has_stdio(&self, name: &[u8]) -> bool {
+        self.outputs.has_stdio(name)
+    }
 }
 
 impl Declarations {
@@ -215,12 +232,11 @@ impl Declarations {
     {
         match line {
             Line::Input { name, input } => {
-                self.inputs
-                    .add(alloc, name.as_bytes(), is_read_ahead(input))?;
+                self.inputs.add(alloc, name.as_bytes(), input_flags(input))?;
             }
             Line::Output { name, output } => {
                 self.outputs
-                    .add(alloc, name.as_bytes(), is_written_behind(output))?;
+                    .add(alloc, name.as_bytes(), output_flags(output))?;
             }
             Line::Guest { guest, input: _ } => self.declared[*guest as usize] = true,
             Line::Call { guest, call: _ } => self.called[*guest as usize] = true,

@@ -1,6 +1,7 @@
 use crate::bytes::ByteString;
 use crate::name::Name;
 use crate::plan::{ReadPlan, WritePlan};
+use crate::text::Text;
 use wasi_clocks::WallTime;
 
 /// Where a guest's standard input comes from.
@@ -8,6 +9,8 @@ use wasi_clocks::WallTime;
 pub enum Input {
     /// The session's one input, which all such guests share.
     Shared,
+    /// The same, which is a terminal.
+    Terminal,
     /// Nothing: an input at its end.
     Empty,
     /// An input that is closed.
@@ -27,6 +30,8 @@ pub enum Output {
     Closed,
     /// The declared output of this name.
     Named(Name),
+    /// `NAME@tty`: the declared `stdio` of this name, which is a terminal.
+    Terminal(Name),
 }
 
 /// What a line says that an input of a name is.
@@ -93,6 +98,15 @@ pub enum Setting {
     InsecureSeed(u128),
     /// `maxrandom G NUM`: the most random bytes that it may ask for at a time.
     MaxRandom(u64),
+    /// `env G TEXT TEXT`: one more variable of its environment, also where its key stands already.
+    Env {
+        key: Text,
+        value: Text,
+    },
+    /// `arg G TEXT`: one more argument.
+    Arg(Text),
+    /// `cwd G TEXT`: the directory in which it begins.
+    Cwd(Text),
 }
 
 /// Which of a guest's two random sources.
@@ -201,6 +215,12 @@ pub enum OwnCall {
     ExitCode { code: u8 },
     /// A call on the clocks.
     Clock(ClockCall),
+    /// `get-environment`: the variables of its environment.
+    Environment,
+    /// `get-arguments`: its arguments.
+    Arguments,
+    /// `initial-cwd`: the directory in which it begins, where it has one.
+    InitialCwd,
 }
 
 /// What a guest calls.
@@ -209,6 +229,9 @@ pub enum Call {
     /// `get-stdin`, `get-stdout`, `get-stderr`, and `async-stdin` and so on for the polled access: a
     /// number for one of the guest's standard streams.
     Open { stream: Standard, access: Access },
+    /// `terminal-stdin`, `terminal-stdout`, `terminal-stderr`: a number for one of the guest's
+    /// standard streams, where it is a terminal.
+    Terminal { stream: Standard },
     /// A call on the entry of a number.
     On { number: u64, call: EntryCall },
     /// `drop N`: the entry of a number goes out of the guest's table.

@@ -9,6 +9,7 @@ ghost use Rattle.wasi_host.specs.declared.leaver.Leaver.TheVariants as leaver;
 ghost use Rattle.wasi_host.specs.Host.{leave_entry, leave_all, the_calls, new_guest, configured, left_guest, settled, answer_at, answer_to, answer_by};
 
 use crate::clocks::{awaited, clocked};
+use crate::environment::{arguments_told, cwd_told, environment_told, opened_terminal};
 use crate::own::Own;
 use crate::random::drawn;
 use crate::shared;
@@ -16,7 +17,7 @@ use crate::streams::Streams;
 use std::alloc::Global;
 use std::marker::Model;
 use wasi_base::{OutOfMemory, TrapText};
-use wasi_cli::{Owner, StdioHandle, StdoutHandle};
+use wasi_cli::{ArgList, CwdText, EnvList, Owner, StdioHandle, StdoutHandle};
 use wasi_host::{Clocks, Deed, Entry, Leaver, Settings, SharedEntry, Sources, StreamEntry};
 use wasi_random::DEFAULT_MAX_SIZE;
 use wasi_reply::{Reply, Told};
@@ -60,6 +61,9 @@ impl Guest {
                 input,
                 stdout: Output::Empty,
                 stderr: Output::Empty,
+                environment: EnvList::new(Vec::new(alloc)),
+                arguments: ArgList::new(Vec::new(alloc)),
+                initial_cwd: None,
                 insecure_seed: 0,
                 most_random: DEFAULT_MAX_SIZE,
             },
@@ -94,6 +98,16 @@ impl Guest {
             Setting::Seeded { source, seed } => self.sources.seed(*source, *seed),
             Setting::InsecureSeed(seed) => self.settings.insecure_seed = *seed,
             Setting::MaxRandom(size) => self.settings.most_random = *size,
+            Setting::Env { key, value } => {
+                self.settings
+                    .environment
+                    .push(alloc, key.as_str(), value.as_str())?;
+            }
+            Setting::Arg(text) => self.settings.arguments.push(alloc, text.as_str())?,
+            Setting::Cwd(text) => {
+                let cwd = CwdText::from_str(alloc, text.as_str())?;
+                self.settings.initial_cwd = Some(cwd);
+            }
         }
         Ok(())
     }
@@ -184,6 +198,10 @@ impl Guest {
                     parent: None,
                 })
             }
+            Call::Terminal { stream } => {
+                let deed = opened_terminal(&self.settings, *stream);
+                self.own.act_apart(deed)
+            }
             Call::On { number, call } => {
                 self.answer_at(alloc, call, guest, *number, clocks, core, streams)
             }
@@ -192,7 +210,7 @@ impl Guest {
                 Ok(self.own.drop(*number))
             }
             Call::Own(call) => {
-                let deed = self.owned(call, clocks);
+                let deed = self.owned(alloc, call, clocks)?;
                 self.own.act_apart(deed)
             }
             Call::Random(call) => {
@@ -267,14 +285,16 @@ impl Guest {
     }
 
     // a call on no entry and no stream
-    fn owned(&self, call: &OwnCall, clocks: &Clocks) -> Deed
-        ensures { result ≡ owned clocks.now call.now self.now.settings self.now.own }
+    fn owned(&self, alloc: Global, call: &OwnCall, clocks: &Clocks) -> Result<Deed, OutOfMemory>
+        ensures { IfOk result (λ deed. deed ≡ owned clocks.now call.now self.now.settings self.now.own) }
     {
-        let _ = &self;
         match call {
-            OwnCall::Exit { status } => Deed::Tell(Told::Exit(exit_status(*status))),
-            OwnCall::ExitCode { code } => Deed::Tell(Told::Exit(*code)),
-            OwnCall::Clock(call) => clocked(clocks, *call),
+            OwnCall::Exit { status } => Ok(Deed::Tell(Told::Exit(exit_status(*status)))),
+            OwnCall::ExitCode { code } => Ok(Deed::Tell(Told::Exit(*code))),
+            OwnCall::Clock(call) => Ok(clocked(clocks, *call)),
+            OwnCall::Environment => Ok(Deed::Tell(environment_told(alloc, &self.settings)?)),
+            OwnCall::Arguments => Ok(Deed::Tell(arguments_told(alloc, &self.settings)?)),
+            OwnCall::InitialCwd => Ok(Deed::Tell(cwd_told(alloc, &self.settings)?)),
         }
     }
 }
@@ -290,6 +310,10 @@ fn copy_output(alloc: Global, output: &Output) -> Result<Output, OutOfMemory>
             let name = name.copy(alloc)?;
             Ok(Output::Named(name))
         }
+        Output::Terminal(name) => {
+            let name = name.copy(alloc)?;
+            Ok(Output::Terminal(name))
+        }
     }
 }
 
@@ -298,7 +322,7 @@ fn opened(input: &Input, stream: Standard, access: Access) -> Entry
     ensures { result ≡ opened input.now stream access }
 {
     match (input, stream) {
-        (Input::Shared, Standard::Input) => match access {
+        (Input::Shared | Input::Terminal, Standard::Input) => match access {
             Access::Plain => Entry::Shared(SharedEntry::Reader),
             Access::Polled => Entry::Shared(SharedEntry::Polled(Wait::new())),
         },

@@ -3,6 +3,7 @@
 
 mod answers;
 mod clocks;
+mod environment;
 mod generated;
 mod guest;
 mod input;

@@ -7,7 +7,7 @@ ghost use Rattle.wasi_host.specs.declared.stream.InStream.TheVariants as in_stre
 ghost use Rattle.wasi_host.specs.declared.stream.OutStream.TheVariants as out_stream;
 ghost use Rattle.wasi_host.specs.Calls.{called, sent};
 ghost use Rattle.wasi_host.specs.Tasks.{input_turned, output_turned};
-ghost use Rattle.wasi_host.specs.Host.{the_rules, names_in, is_reader, is_writer, reads_ahead_in, writes_behind_in, taken_out, put_back, task_told, after_task, leave_input, leave_output};
+ghost use Rattle.wasi_host.specs.Host.{the_rules, names_in, is_reader, is_writer, is_process, reads_ahead_in, writes_behind_in, has_stdio_in, taken_out, put_back, task_told, after_task, leave_input, leave_output};
 ghost use Rattle.wasi_host.specs.InStreams.{input_without};
 ghost use Rattle.wasi_host.specs.OutStreams.{output_without};
 ghost use Rattle.wasi_host.specs.Transcript.{outputs_of};
@@ -97,6 +97,16 @@ impl Streams {
         }
     }
 
+    /// Whether there is an output of this name that is a standard output of the host's process.
+    pub fn has_stdio(&self, name: &[u8]) -> bool
+        ensures { result ≡ has_stdio_in self.now name.now }
+    {
+        match self.outputs.get(name) {
+            Some(output) => is_process(output),
+            None => false,
+        }
+    }
+
     /// An input of a new name.
     pub fn add_input(
         &mut self,
@@ -145,7 +155,9 @@ impl Streams {
     {
         match from {
             Input::Named(name) => self.call_named(alloc, name.as_bytes(), call, at, entry),
-            Input::Shared | Input::Empty | Input::Closed => called_closed(alloc, call, at, entry),
+            Input::Shared | Input::Terminal | Input::Empty | Input::Closed => {
+                called_closed(alloc, call, at, entry)
+            }
         }
     }
 
@@ -185,7 +197,9 @@ impl Streams {
         ensures err { OnErr result (self.new ≡ self.old) }
     {
         match to {
-            Output::Named(name) => self.send_named(alloc, name.as_bytes(), call, which, at, entry),
+            Output::Named(name) | Output::Terminal(name) => {
+                self.send_named(alloc, name.as_bytes(), call, which, at, entry)
+            }
             Output::Closed => sent_closed(alloc, call, which, at, entry),
             Output::Empty | Output::Sink => {
                 let mut sink = OutStream::Sink;
@@ -221,7 +235,7 @@ impl Streams {
     {
         match from {
             Input::Named(name) => self.leave_input_named(name.as_bytes(), who),
-            Input::Shared | Input::Empty | Input::Closed => {}
+            Input::Shared | Input::Terminal | Input::Empty | Input::Closed => {}
         }
     }
 
@@ -239,7 +253,9 @@ impl Streams {
         ensures { self.new ≡ leave_output who to.now self.old }
     {
         match to {
-            Output::Named(name) => self.leave_output_named(name.as_bytes(), who),
+            Output::Named(name) | Output::Terminal(name) => {
+                self.leave_output_named(name.as_bytes(), who);
+            }
             Output::Empty | Output::Sink | Output::Closed => {}
         }
     }
@@ -308,4 +324,11 @@ fn is_writer(output: &OutStream) -> bool
     ensures { result ≡ is_writer (Some output.now) }
 {
     matches!(output, OutStream::Buffered(_))
+}
+
+// .. and one of the host's process
+fn is_process(output: &OutStream) -> bool
+    ensures { result ≡ is_process (Some output.now) }
+{
+    matches!(output, OutStream::Stdio(_))
 }

@@ -57,6 +57,7 @@ fn copy_input(alloc: Global, input: &Input) -> Result<Input, OutOfMemory>
 {
     match input {
         Input::Shared => Ok(Input::Shared),
+        Input::Terminal => Ok(Input::Terminal),
         Input::Empty => Ok(Input::Empty),
         Input::Closed => Ok(Input::Closed),
         Input::Named(name) => {
@@ -360,6 +361,10 @@ impl Declared for World {
 
     fn writes_behind(&self, name: &[u8]) -> bool {
         self.streams.writes_behind(name)
+    }
+
+    fn has_stdio(&self, name: &[u8]) -> bool {
+        self.streams.has_stdio(name)
     }
 }
 

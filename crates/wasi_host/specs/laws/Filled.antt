@@ -1,6 +1,6 @@
 -- Over a whole run each output whose writes go straight out has what the writes that went there added, in order.
 use Rattle.std.proofs.Common.{◌≡◌, ℕ, Bool, true, false, cond, List, [], ◌∷◌, Option, Some, None, refl, ap, ◌∙◌, sym, subst, true≢false, inl, inr}
-use Rattle.std.specs.Prelude.{is_some, map, nat_eq}
+use Rattle.std.specs.Prelude.{is_some, map, nat_eq, ◌||◌}
 use Rattle.std.specs.Map.{lookup}
 use Rattle.std.specs.Option.{option_map, option_and_then}
 use Rattle.std.specs.Str.{bytes_eq}
@@ -31,7 +31,10 @@ use Rattle.wasi_host.specs.laws.Walk.{HoldsOfEach, left_by, told_by, step_holds}
 abbrev direct_in : Option OutStream → Option (List ℕ)
 direct_in o = option_and_then direct_taken o
 
-direct_by : (s : OutStream) → is_direct s ≡ nat_eq (sort_of s) 1
+abbrev goes_out : ℕ → Bool
+goes_out sort = nat_eq sort 1 || nat_eq sort 3
+
+direct_by : (s : OutStream) → is_direct s ≡ goes_out (sort_of s)
 direct_by (stream.Pipe pipe) = refl
 direct_by (stream.File out) = refl
 direct_by (stream.Stdio out) = refl
@@ -62,7 +65,7 @@ sends_fill it which at e own s held = by (is_direct s) refl
         let kept = outputs_keep it which at e s own is in
         subst (λ b. Fills (Some (it, e)) (told_by it which at e own s) (cond b (Some (taken_of s)) None) (direct_taken left)) (sym is) (taken_of left, ap (λ b. cond b (Some (taken_of left)) None) kept.direct, kept.took)
     by false is =
-        let none : is_direct left ≡ false = direct_by left ∙ ap (λ n. nat_eq n 1) (sent_sort it which at e s) ∙ sym (direct_by s) ∙ is in
+        let none : is_direct left ≡ false = direct_by left ∙ ap goes_out (sent_sort it which at e s) ∙ sym (direct_by s) ∙ is in
         subst (λ b. Fills (Some (it, e)) (told_by it which at e own s) (cond b (Some (taken_of s)) None) (direct_taken left)) (sym is) (inl (ap (λ b. cond b (Some (taken_of left)) None) none))
 
 turns_fill : (s : OutStream) (answer : Reply) → FillsIn None answer (Some s) (Some (output_turned s).left)

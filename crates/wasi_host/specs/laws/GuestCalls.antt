@@ -34,7 +34,7 @@ use Rattle.wasi_host.specs.declared.stream.OutStream.{OutStream}
 use Rattle.wasi_host.specs.declared.deed.Deed.{Deed}
 use Rattle.wasi_host.specs.declared.deed.Deed.TheVariants.{Tell, Make, Change}
 use Rattle.wasi_host.specs.Deeds.{Own, Done, only_told, trapped, entry_at, may_make, may_change, made, with_kept, act, dropped, is_shared, apart}
-use Rattle.wasi_host.specs.Calls.{Doing, doing, opened, asked, called, sent, awaited, owned as own_deed, shared_entry, stream_entry}
+use Rattle.wasi_host.specs.Calls.{Doing, doing, opened, opened_terminal, asked, called, sent, awaited, owned as own_deed, shared_entry, stream_entry}
 use Rattle.wasi_host.specs.Clocks.{Clocks}
 use Rattle.wasi_host.specs.Random.{Sources, Drawn, drawn}
 use Rattle.wasi_host.specs.Host.{Guest, Streams, the_calls, Answered, settled, left_guest, on_sources, leave_entry, answer_at, answer_to, answer_by, input_at, put_input, output_at, put_output}
@@ -229,11 +229,14 @@ module _ (input front : List ℕ) (shared : Shared) (guests : ℕ → Option Gue
 
   opens : (it : Standard) (how : Access) (from_is : Input) (streams : Streams) → guest.settings.input ≡ from_is → Goes (call.Open it how) (settled guest (act (Make (opened from_is it how) None) guest.own) shared streams)
   opens standard.Input how from.Shared streams e = shared_opens how streams (ap shares_in there ∙ ap run.is_shared e)
+  opens standard.Input how from.Terminal streams e = shared_opens how streams (ap shares_in there ∙ ap run.is_shared e)
   opens standard.Input how from.Empty streams e = stream_opens standard.Input how streams (λ s' same answer. subst (λ b. OpenRule b how now g answer s') (sym (ap shares_in there ∙ ap run.is_shared e)) same)
   opens standard.Input how from.Closed streams e = stream_opens standard.Input how streams (λ s' same answer. subst (λ b. OpenRule b how now g answer s') (sym (ap shares_in there ∙ ap run.is_shared e)) same)
   opens standard.Input how (from.Named name) streams e = stream_opens standard.Input how streams (λ s' same answer. subst (λ b. OpenRule b how now g answer s') (sym (ap shares_in there ∙ ap run.is_shared e)) same)
   opens standard.Output how from.Shared streams e = stream_opens standard.Output how streams (λ s' same answer. same)
   opens standard.Error how from.Shared streams e = stream_opens standard.Error how streams (λ s' same answer. same)
+  opens standard.Output how from.Terminal streams e = stream_opens standard.Output how streams (λ s' same answer. same)
+  opens standard.Error how from.Terminal streams e = stream_opens standard.Error how streams (λ s' same answer. same)
   opens standard.Output how reads streams e = stream_opens standard.Output how streams (λ s' same answer. same)
   opens standard.Error how reads streams e = stream_opens standard.Error how streams (λ s' same answer. same)
 
@@ -284,6 +287,9 @@ module _ (input front : List ℕ) (shared : Shared) (guests : ℕ → Option Gue
   own_next : (it : OwnCall) (deed : Deed) (streams : Streams) → Goes (call.Own it) (settled guest (act (apart deed) guest.own) shared streams)
   own_next it deed streams = other (call.Own it) (act (apart deed) guest.own) streams (follow (call.Own it) (apart deed) (λ live. refl)) (stands_still guest.own (live g) is.own deed) (λ s' e. e) refl
 
+  terminal_next : (it : Standard) (deed : Deed) (streams : Streams) → Goes (call.Terminal it) (settled guest (act (apart deed) guest.own) shared streams)
+  terminal_next it deed streams = other (call.Terminal it) (act (apart deed) guest.own) streams (follow (call.Terminal it) (apart deed) (λ live. refl)) (stands_still guest.own (live g) is.own deed) (λ s' e. e) refl
+
   -- ---- a call on the guest's random sources: nothing of it shows but what it is told
   random_next : (it : RandomCall) (done : Drawn) (streams : Streams) → Goes (call.Random it) (on_sources done guest shared streams)
   random_next it done streams =
@@ -307,6 +313,7 @@ module _ (input front : List ℕ) (shared : Shared) (guests : ℕ → Option Gue
   goes_next clocks (call.On n it) streams = entry_next clocks it n (held_at guest.own.table n) streams refl
   goes_next clocks (call.Drop n) streams = drop_next n (leave_entry (leaver.Entry (record { guest = g; number = n })) (entry_at guest.own n) guest.settings streams)
   goes_next clocks (call.Own it) streams = own_next it (own_deed clocks it guest.settings guest.own) streams
+  goes_next clocks (call.Terminal it) streams = terminal_next it (opened_terminal it guest.settings) streams
   goes_next clocks (call.Random it) streams = random_next it (drawn it guest.settings guest.sources) streams
 
 pub call_next : (clocks : Clocks) (b : Bool) (c : Call) (input front : List ℕ) (shared : Shared) (guests : ℕ → Option Guest) (live : ℕ → FinSet nat_cmp) (told : Told) (g : ℕ) (guest : Guest) (streams : Streams) → guest.ended ≡ b → guests g ≡ Some guest → IsGuest guest (live g) → ((m : ℕ) → OwnedBy (guests m) (live m)) → IsSound shared → input ≡ front ++ (shared.held ++ told.left) → let done : Answered = answer_by b (the_calls clocks) c g guest shared streams in Next input front shared guests live told (λ s. call_bytes b c input s g done.reply) (λ s s'. EndedRule b c input s g done.reply s') done.shared (at_number guests g (Some done.guest)) told

@@ -50,7 +50,7 @@ use Rattle.wasi_host.specs.declared.leaver.Leaver.TheVariants as leaver
 use Rattle.wasi_host.specs.InStreams.{input_without}
 use Rattle.wasi_host.specs.OutStreams.{taken_of, output_without}
 use Rattle.wasi_host.specs.Deeds.{Own, Done, only_told, trapped, entry_at, may_make, may_change, made, with_kept, act, dropped, dropped_at, is_shared, apart}
-use Rattle.wasi_host.specs.Calls.{Owner, opened}
+use Rattle.wasi_host.specs.Calls.{Owner, opened, opened_terminal}
 use Rattle.wasi_host.specs.Clocks.{Clocks, clocks_after}
 use Rattle.wasi_host.specs.Host.{Named, Guest, left_own, left_guest, Streams, taken_out, put_back, input_at, put_input, output_at, put_output, leave_input, leave_output, leave_entry, leave_all, left_streams, Host, Rules, the_rules, Answered, guest_of, new_guest, configured, new_host, new_input, new_output, answer_at, answer_to, answer_by, answer_in, answer, given_for, size_read, step_reply, step_host, step_told, reply_by, host_by, replies, host_end}
 use Rattle.wasi_host.specs.Host as host
@@ -215,10 +215,12 @@ left_unshared own answer none = by (ends answer)
 abbrev InputApart : (List ℕ → Bool) → Bool → Input → Type 0
 InputApart mine own (input.Named name) = mine name ≡ own
 InputApart mine own input.Shared = own ≡ false
+InputApart mine own input.Terminal = own ≡ false
 InputApart mine own other = Unit {0}
 
 abbrev OutputApart : (List ℕ → Bool) → Bool → Output → Type 0
 OutputApart mine own (output.Named name) = mine name ≡ own
+OutputApart mine own (output.Terminal name) = mine name ≡ own
 OutputApart mine own other = Unit {0}
 
 abbrev SettingApart : (List ℕ → Bool) → Bool → Setting → Type 0
@@ -273,6 +275,7 @@ module _ (rules : Rules) (mine : List ℕ → Bool) (g : ℕ) where
 
   put_output_other : (to : Output) (it : OutStream) (streams : Streams) → OutputApart mine false to → Same (put_output to it streams) streams
   put_output_other (output.Named n) it streams apart = record { inputs = refl; outputs = kept_other mine n it streams.outputs apart }
+  put_output_other (output.Terminal n) it streams apart = record { inputs = refl; outputs = kept_other mine n it streams.outputs apart }
   put_output_other other it streams apart = same_refl streams
 
   at_other : (clocks : Clocks) (it : EntryCall) (at : Owner) (o : Option Entry) (guest : Guest) (s : Shared) (streams : Streams) → Fits false guest → Same (answer_at (rules.calls clocks) it at o guest s streams).streams streams
@@ -343,6 +346,7 @@ module _ (rules : Rules) (mine : List ℕ → Bool) (g : ℕ) where
 
   output_same : (to : Output) (one two : Streams) → OutputApart mine true to → Same one two → output_at to one ≡ output_at to two
   output_same (output.Named n) one two apart same = ap (λ o. unwrap_or o out_stream.Closed) (sym (kept_found mine n one.outputs apart) ∙ ap (lookup (bytes_eq n)) same.outputs ∙ kept_found mine n two.outputs apart)
+  output_same (output.Terminal n) one two apart same = ap (λ o. unwrap_or o out_stream.Closed) (sym (kept_found mine n one.outputs apart) ∙ ap (lookup (bytes_eq n)) same.outputs ∙ kept_found mine n two.outputs apart)
   output_same output.Closed one two apart same = refl
   output_same other one two apart same = refl
 
@@ -352,6 +356,7 @@ module _ (rules : Rules) (mine : List ℕ → Bool) (g : ℕ) where
 
   put_output_same : (to : Output) (a b : OutStream) (one two : Streams) → OutputApart mine true to → a ≡ b → Same one two → Same (put_output to a one) (put_output to b two)
   put_output_same (output.Named n) a b one two apart e same = record { inputs = same.inputs; outputs = kept_own mine n a one.outputs apart ∙ (λ i. put_back n (e i) (same.outputs i)) ∙ sym (kept_own mine n b two.outputs apart) }
+  put_output_same (output.Terminal n) a b one two apart e same = record { inputs = same.inputs; outputs = kept_own mine n a one.outputs apart ∙ (λ i. put_back n (e i) (same.outputs i)) ∙ sym (kept_own mine n b two.outputs apart) }
   put_output_same other a b one two apart e same = same
 
   on_output : (clocks : Clocks) (it : EntryCall) (at : Owner) (which : Standard) (e : StreamEntry) (to : Output) (guest : Guest) (s s' : Shared) (one two : Streams) → OutputApart mine true to → Same one two → Tells (host.on_output ((rules.calls clocks).sent it which at e (output_at to one)) to guest s one) (host.on_output ((rules.calls clocks).sent it which at e (output_at to two)) to guest s' two)
@@ -405,6 +410,7 @@ module _ (rules : Rules) (mine : List ℕ → Bool) (g : ℕ) where
   to_told : (clocks : Clocks) (c : Call) (k : ℕ) (guest : Guest) (s s' : Shared) (one two : Streams) → Fits true guest → Same one two → Tells (answer_to (rules.calls clocks) c k guest s one) (answer_to (rules.calls clocks) c k guest s' two)
   to_told clocks (call.On n it) k guest s s' one two fits same = at_told clocks it (record { guest = k; number = n }) (held_at guest.own.table n) guest s s' one two (fits.unshared refl n) fits same
   to_told clocks (call.Open it how) k guest s s' one two fits same = record { reply = refl; guest = refl; streams = same }
+  to_told clocks (call.Terminal it) k guest s s' one two fits same = record { reply = refl; guest = refl; streams = same }
   to_told clocks (call.Drop n) k guest s s' one two fits same = record { reply = refl; guest = refl; streams = entry_same (leaver.Entry (record { guest = k; number = n })) (entry_at guest.own n) guest one two fits same }
   to_told clocks (call.Own it) k guest s s' one two fits same = record { reply = refl; guest = refl; streams = same }
   to_told clocks (call.Random it) k guest s s' one two fits same = record { reply = refl; guest = refl; streams = same }
@@ -501,10 +507,14 @@ module _ (rules : Rules) (mine : List ℕ → Bool) (g : ℕ) where
   opened_unshared input.Shared standard.Input how apart = absurd (true≢false apart)
   opened_unshared input.Shared standard.Output how apart = absurd (true≢false apart)
   opened_unshared input.Shared standard.Error how apart = absurd (true≢false apart)
+  opened_unshared input.Terminal standard.Input how apart = absurd (true≢false apart)
+  opened_unshared input.Terminal standard.Output how apart = absurd (true≢false apart)
+  opened_unshared input.Terminal standard.Error how apart = absurd (true≢false apart)
   opened_unshared from it how apart = refl
 
   to_fits : (clocks : Clocks) (own : Bool) (c : Call) (k : ℕ) (guest : Guest) (s : Shared) (streams : Streams) → Fits own guest → Fits own (answer_to (rules.calls clocks) c k guest s streams).guest
   to_fits clocks own (call.Open it how) k guest s streams fits = left_fits own guest (act (Make (opened guest.settings.input it how) None) guest.own) fits (λ is. make_unshared guest.own (fits.unshared is) (opened guest.settings.input it how) None (opened_unshared guest.settings.input it how (subst (λ own. InputApart mine own guest.settings.input) is fits.reads)))
+  to_fits clocks own (call.Terminal it) k guest s streams fits = left_fits own guest (act (apart (opened_terminal it guest.settings)) guest.own) fits (λ is. apart_unshared guest.own (fits.unshared is) (opened_terminal it guest.settings))
   to_fits clocks own (call.On n it) k guest s streams fits = at_fits clocks own it (record { guest = k; number = n }) (held_at guest.own.table n) guest s streams (λ is. fits.unshared is n) fits
   to_fits clocks own (call.Drop n) k guest s streams fits = left_fits own guest (dropped n guest.own) fits (λ is. dropped_unshared guest.own (fits.unshared is) n (entry_at guest.own n))
   to_fits clocks own (call.Own it) k guest s streams fits = left_fits own guest (act (apart ((rules.calls clocks).owned it guest.settings guest.own)) guest.own) fits (λ is. apart_unshared guest.own (fits.unshared is) ((rules.calls clocks).owned it guest.settings guest.own))
@@ -583,7 +593,9 @@ same_bytes n = (bytes_eq-Decides n n).1 refl
 module _ (mine : List ℕ → Bool) (g : ℕ) where
   output_named : (b : Bool) (it : Output) → ((name : List ℕ) → (b && output_names it name) ≡ true → mine name ≡ true) → ((name : List ℕ) → (not b && output_names it name) ≡ true → mine name ≡ false) → OutputApart mine b it
   output_named true (output.Named n) own other = own n (same_bytes n)
+  output_named true (output.Terminal n) own other = own n (same_bytes n)
   output_named false (output.Named n) own other = other n (same_bytes n)
+  output_named false (output.Terminal n) own other = other n (same_bytes n)
   output_named b output.Empty own other = tt
   output_named b output.Sink own other = tt
   output_named b output.Closed own other = tt
@@ -593,6 +605,8 @@ module _ (mine : List ℕ → Bool) (g : ℕ) where
   input_named false (input.Named n) own other unshared = other n (same_bytes n)
   input_named true input.Shared own other unshared = unshared
   input_named false input.Shared own other unshared = refl
+  input_named true input.Terminal own other unshared = unshared
+  input_named false input.Terminal own other unshared = refl
   input_named b input.Empty own other unshared = tt
   input_named b input.Closed own other unshared = tt
 

@@ -59,10 +59,12 @@ input_apart other it streams = refl
 
 output_still : (to : Output) (it : OutStream) (streams : Streams) (name : List ℕ) → output_names to name ≡ false → lookup (bytes_eq name) (put_output to it streams).outputs ≡ lookup (bytes_eq name) streams.outputs
 output_still (output.Named n) it streams name apart = found_still n name streams.outputs it apart
+output_still (output.Terminal n) it streams name apart = found_still n name streams.outputs it apart
 output_still other it streams name apart = refl
 
 pub output_apart : (to : Output) (it : OutStream) (streams : Streams) → (put_output to it streams).inputs ≡ streams.inputs
 output_apart (output.Named n) it streams = refl
+output_apart (output.Terminal n) it streams = refl
 output_apart other it streams = refl
 
 -- who leaves a stream leaves those of other names
@@ -119,6 +121,7 @@ entry_leaves done who (Some (entry.Stream standard.Error e)) guest s streams = r
 to_leaves : (rules : CallRules) (c : Call) (g : ℕ) (guest : Guest) (s : Shared) (streams : Streams) → Leaves (entry_of c guest) guest.settings (answer_to rules c g guest s streams) s streams
 to_leaves rules (call.On n it) g guest s streams = at_leaves rules it (record { guest = g; number = n }) (entry_at guest.own n) guest s streams
 to_leaves rules (call.Open it how) g guest s streams = record { inputs = λ name apart. refl; outputs = λ name apart. refl; shared = λ apart. refl; settings_are = refl }
+to_leaves rules (call.Terminal it) g guest s streams = record { inputs = λ name apart. refl; outputs = λ name apart. refl; shared = λ apart. refl; settings_are = refl }
 to_leaves rules (call.Drop n) g guest s streams = entry_leaves (dropped n guest.own) (leaver.Entry (record { guest = g; number = n })) (entry_at guest.own n) guest s streams
 to_leaves rules (call.Own it) g guest s streams = record { inputs = λ name apart. refl; outputs = λ name apart. refl; shared = λ apart. refl; settings_are = refl }
 to_leaves rules (call.Random it) g guest s streams = record { inputs = λ name apart. refl; outputs = λ name apart. refl; shared = λ apart. refl; settings_are = refl }

@@ -46,7 +46,7 @@ use Rattle.wasi_host.specs.declared.leaver.Leaver.{Leaver}
 use Rattle.wasi_host.specs.declared.leaver.Leaver.TheVariants as leaver
 use Rattle.wasi_host.specs.Host.{Named, the_calls, the_rules, CallRules, Rules, Guest, Streams, configured, put_input, put_output, new_input, new_output, Host, IsStep, new_guest, answer_at, answer_to, answer_by, answer_in, answer, guest_of, was_called_in, names_in, reads_ahead_in, writes_behind_in, leave_input, leave_output, leave_entry, leave_all, names_of, after_task, host_after, step_reply, step_host, step_told, delivery_told, after_delivery, given_for, told_for, new_host}
 use Rattle.wasi_host.specs.laws.Shown.{cond_same, get_set}
-use Rattle.wasi_host.specs.laws.Tasks.{call_kinds, turn_kinds, call_settings, NamesStand, GuestStands, GuestsStand, same_settings, stand_after, new_stands, configured_stands, readers_more, writers_more}
+use Rattle.wasi_host.specs.laws.Tasks.{call_kinds, turn_kinds, call_settings, NamesStand, GuestStands, GuestsStand, same_settings, stand_after, new_stands, configured_stands, readers_more, writers_more, processes_more}
 
 -- over a source that tells, a step is a function of what it tells
 pub record IsToldStep (u : Told) (after : Option Told) (old new : Host) (step : Line) (answer : Reply) : Type 0 where
@@ -139,6 +139,7 @@ put_input_names other it streams = record { inputs = refl; outputs = refl }
 
 put_output_names : (to : Output) (it : OutStream) (streams : Streams) → SameNames (put_output to it streams) streams
 put_output_names (output.Named name) it streams = record { inputs = refl; outputs = same_names (bytes_eq name) streams.outputs it }
+put_output_names (output.Terminal name) it streams = record { inputs = refl; outputs = same_names (bytes_eq name) streams.outputs it }
 put_output_names other it streams = record { inputs = refl; outputs = refl }
 
 trans_names : (three two one : Streams) → SameNames three two → SameNames two one → SameNames three one
@@ -191,6 +192,7 @@ at_called rules it at (Some (entry.Own e)) guest s streams = refl
 to_called : (rules : CallRules) (c : Call) (g : ℕ) (guest : Guest) (s : Shared) (streams : Streams) → (answer_to rules c g guest s streams).guest.was_called ≡ true
 to_called rules (call.On n it) g guest s streams = at_called rules it (record { guest = g; number = n }) (entry_at guest.own n) guest s streams
 to_called rules (call.Open it how) g guest s streams = refl
+to_called rules (call.Terminal it) g guest s streams = refl
 to_called rules (call.Drop n) g guest s streams = refl
 to_called rules (call.Own it) g guest s streams = refl
 to_called rules (call.Random it) g guest s streams = refl
@@ -220,6 +222,7 @@ names_step (line.Output name it) old g len guests h =
     λ i. record (names_of old) {
       outputs = more_names old.streams.outputs name (new_output it) i;
       writes_behind = λ other. writers_more old.streams.outputs name it new.1 other i;
+      has_stdio = λ other. processes_more old.streams.outputs name it new.1 other i;
     }
 names_step (line.Guest n reads) old g len guests h =
     let lt : n < length old.guests = rw len (grind (arith, nat_tests, h)) in
@@ -248,6 +251,7 @@ names_step (line.Call n c) old g len guests h =
       outputs = names.outputs i;
       reads_ahead = λ name. kinds.reads name i;
       writes_behind = λ name. kinds.writes name i;
+      has_stdio = λ name. kinds.processes name i;
     }
 names_step (line.Worker it) old g len guests h = refl
 names_step (line.Clock it) old g len guests h = refl
@@ -259,6 +263,7 @@ names_step (line.Turn it) old g len guests h =
       outputs = names.outputs i;
       reads_ahead = λ name. kinds.reads name i;
       writes_behind = λ name. kinds.writes name i;
+      has_stdio = λ name. kinds.processes name i;
     }
 
 -- what guests name stays declared

@@ -73,7 +73,7 @@ use Rattle.wasi_host.specs.OutStreams.{output_check_write, after_output_check_wr
 use Rattle.wasi_host.specs.Random.{Drawn, Sources, draw, drawn}
 use Rattle.wasi_host.specs.Deeds.{Own, Done, only_told, trapped, entry_at, made, may_make, may_change, same_standard, with_kept, act, dropped, dropped_at, apart}
 use Rattle.wasi_host.specs.Clocks.{Clocks}
-use Rattle.wasi_host.specs.Calls.{Settings, asked, called, sent, polled_read, polled_write, polled_flush, reading_told, skipped_told, polling_told, error_told, result_told, poll_told, is_done}
+use Rattle.wasi_host.specs.Calls.{Settings, opened_terminal, asked, called, sent, polled_read, polled_write, polled_flush, reading_told, skipped_told, polling_told, error_told, result_told, poll_told, is_done}
 use Rattle.wasi_host.specs.Host.{Named, Guest, Streams, Host, Answered, the_calls, taken_out, put_back, input_at, put_input, output_at, put_output, settled, left_guest, leave_input, leave_output, leave_entry, leave_all, guest_of, answer_at, answer_to, answer_by, answer_in, answer, reply_to, host_after}
 use Rattle.wasi_host.specs.View.{input_names, output_names}
 use Rattle.wasi_host.specs.Traps.{input_but_turn, output_but_turn, input_turn, output_turn, StreamLivesOn, ended_guest, uses_output, StaysWithGuest, StaysWithCaller, number_in, IsRefused}
@@ -349,6 +349,7 @@ module _ (name : List ℕ) where
 
   output_left : (who : Leaver) (to : Output) (streams : Streams) → output_of (leave_output who to streams) ≡ option_map (out_gone who (output_names to name)) (output_of streams)
   output_left who (output.Named n) streams = put_is out_stream.Closed (output_without who) n name streams.outputs
+  output_left who (output.Terminal n) streams = put_is out_stream.Closed (output_without who) n name streams.outputs
   output_left who other streams = sym (same_option (output_of streams))
 
   inputs_left : (who : Leaver) (settings : Settings) (streams : Streams) → input_of (leave_all who settings streams) ≡ option_map (in_gone who (input_names settings.input name)) (input_of streams)
@@ -524,6 +525,7 @@ input_same other left streams e = refl
 
 output_same : (to : Output) (left : OutStream) (streams : Streams) → left ≡ output_at to streams → put_output to left streams ≡ streams
 output_same (output.Named name) left streams e = ap (λ outputs. record streams { outputs = outputs }) (ap (λ it. put_back name it streams.outputs) e ∙ (puts_back out_stream.Closed name streams.outputs).same)
+output_same (output.Terminal name) left streams e = ap (λ outputs. record streams { outputs = outputs }) (ap (λ it. put_back name it streams.outputs) e ∙ (puts_back out_stream.Closed name streams.outputs).same)
 output_same other left streams e = refl
 
 at_leaves : (clocks : Clocks) (it : EntryCall) (g n : ℕ) (o : Option Entry) (guest : Guest) (s : Shared) (streams : Streams) → entry_at guest.own n ≡ o → let done = answer_at (the_calls clocks) it (record { guest = g; number = n }) o guest s streams in ends done.reply ≡ true → Leaves g guest s streams done
@@ -568,6 +570,9 @@ draws_none random.InsecureSeed settings sources e = refl
 to_leaves : (clocks : Clocks) (c : Call) (g : ℕ) (guest : Guest) (s : Shared) (streams : Streams) → let done = answer_to (the_calls clocks) c g guest s streams in ends done.reply ≡ true → Leaves g guest s streams done
 to_leaves clocks (call.Open it how) g guest s streams e =
     let deed = Make (Rattle.wasi_host.specs.Calls.opened guest.settings.input it how) None in
+    left_as g guest s streams (act deed guest.own) s streams e (act_keeps deed guest.own) refl refl
+to_leaves clocks (call.Terminal it) g guest s streams e =
+    let deed = apart (opened_terminal it guest.settings) in
     left_as g guest s streams (act deed guest.own) s streams e (act_keeps deed guest.own) refl refl
 to_leaves clocks (call.On n it) g guest s streams e = at_leaves clocks it g n (entry_at guest.own n) guest s streams refl e
 to_leaves clocks (call.Drop n) g guest s streams e = record {
@@ -648,6 +653,7 @@ dead_reply clocks (call.On n it) g number guest s streams is dead =
     ap (λ o. (answer_at (the_calls clocks) it (record { guest = g; number = n }) o guest s streams).reply) (ap (entry_at guest.own) (same_number n number is) ∙ dead)
 dead_reply clocks (call.Drop n) g number guest s streams is dead = ap (λ o. (dropped_at o n guest.own).reply) (ap (entry_at guest.own) (same_number n number is) ∙ dead)
 dead_reply clocks (call.Open it how) g number guest s streams is dead = absurd (true≢false (sym (ap is_some is)))
+dead_reply clocks (call.Terminal it) g number guest s streams is dead = absurd (true≢false (sym (ap is_some is)))
 dead_reply clocks (call.Own it) g number guest s streams is dead = absurd (true≢false (sym (ap is_some is)))
 dead_reply clocks (call.Random it) g number guest s streams is dead = absurd (true≢false (sym (ap is_some is)))
 

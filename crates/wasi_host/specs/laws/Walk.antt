@@ -128,6 +128,7 @@ module _ (R : Change) (holds : HoldsOfEach R) (name : List ℕ) where
 
     leaves_output : (to : Output) (streams : Streams) → So (lookup (bytes_eq name) streams.outputs) → So (lookup (bytes_eq name) (leave_output who to streams).outputs)
     leaves_output (output.Named n) streams h = leaves_named n streams.outputs (bytes_eq n name) refl h
+    leaves_output (output.Terminal n) streams h = leaves_named n streams.outputs (bytes_eq n name) refl h
     leaves_output output.Closed streams h = h
     leaves_output output.Empty streams h = h
     leaves_output output.Sink streams h = h
@@ -154,6 +155,7 @@ module _ (R : Change) (holds : HoldsOfEach R) (name : List ℕ) where
   module _ (it : EntryCall) (which : Standard) (at : Owner) (e : StreamEntry) (own : Own) (held : entry_at own at.number ≡ Some (entry.Stream which e)) where
     to_sends : (to : Output) (streams : Streams) → let s = output_at to streams in Holds (cond (output_names to name) (Some (it, e)) None) (told_by it which at e own s) streams.outputs (put_output to (left_by it which at e s) streams).outputs
     to_sends (output.Named n) streams = put (Some (it, e)) (told_by it which at e own) (left_by it which at e) (λ s. holds.sends it which at e own s held) (holds.misses it which at e own) n streams.outputs (bytes_eq n name) refl
+    to_sends (output.Terminal n) streams = put (Some (it, e)) (told_by it which at e own) (left_by it which at e) (λ s. holds.sends it which at e own s held) (holds.misses it which at e own) n streams.outputs (bytes_eq n name) refl
     to_sends output.Closed streams = kept (told_by it which at e own stream.Closed) streams.outputs
     to_sends output.Empty streams = kept (told_by it which at e own stream.Sink) streams.outputs
     to_sends output.Sink streams = kept (told_by it which at e own stream.Sink) streams.outputs
@@ -173,6 +175,7 @@ module _ (R : Change) (holds : HoldsOfEach R) (name : List ℕ) where
       let done = answer_at (the_calls clocks) it (record { guest = g; number = n }) (entry_at guest.own n) guest s streams in
       subst (λ b. Holds (cond b None (entry_call_on name it (entry_at guest.own n) guest.settings)) done.reply streams.outputs done.streams.outputs) (sym goes_on) (at_call clocks it (record { guest = g; number = n }) (entry_at guest.own n) guest s streams refl)
   to_call clocks (call.Open it how) g guest s streams goes_on = kept _ streams.outputs
+  to_call clocks (call.Terminal it) g guest s streams goes_on = kept _ streams.outputs
   to_call clocks (call.Drop n) g guest s streams goes_on = leaves_entry None (dropped n guest.own).reply streams.outputs (leaver.Entry (record { guest = g; number = n })) (entry_at guest.own n) guest.settings streams (kept _ streams.outputs)
   to_call clocks (call.Own it) g guest s streams goes_on = kept _ streams.outputs
   to_call clocks (call.Random it) g guest s streams goes_on = kept _ streams.outputs
@@ -180,6 +183,7 @@ module _ (R : Change) (holds : HoldsOfEach R) (name : List ℕ) where
   ended_call : (c : Call) (guest : Guest) → guest.ended ≡ true → guest_call_on name c guest ≡ None
   ended_call (call.On n it) guest e = ap (λ b. cond b None (entry_call_on name it (entry_at guest.own n) guest.settings)) e
   ended_call (call.Open it how) guest e = refl
+  ended_call (call.Terminal it) guest e = refl
   ended_call (call.Drop n) guest e = refl
   ended_call (call.Own it) guest e = refl
   ended_call (call.Random it) guest e = refl

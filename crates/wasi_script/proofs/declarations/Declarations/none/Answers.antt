@@ -1,6 +1,6 @@
 use Rattle.std.proofs.Common.{◌≡◌, ℕ, false, get_or, refl, ap, zero, suc}
 use Rattle.std.specs.Prelude.{replicate}
-use Rattle.wasi_script.specs.Declarations.{stream_names, task_at}
+use Rattle.wasi_script.specs.Declarations.{stream_names, task_at, stdio_at}
 use Rattle.wasi_script.proofs.declarations.Declarations.none.Goals as goal
 
 none_declared : (count number : ℕ) → get_or (replicate count false) number false ≡ false
@@ -16,4 +16,5 @@ returns c = λ i. record {
   outputs = ap stream_names c.none-2.ensures i;
   reads_ahead = ap task_at c.none.ensures i;
   writes_behind = ap task_at c.none-2.ensures i;
+  has_stdio = ap stdio_at c.none-2.ensures i;
 }
