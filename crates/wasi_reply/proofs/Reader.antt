@@ -13,7 +13,7 @@ use Rattle.wasi_reply.specs.declared.reply.Reply.{Reply}
 use Rattle.wasi_reply.specs.declared.reply.Reply.TheVariants as reply
 use Rattle.wasi_reply.specs.Field.{Field}
 use Rattle.wasi_reply.specs.Reply.{fields_of}
-use Rattle.wasi_reply.proofs.SameFields.{Form, form_of, trap_is_last}
+use Rattle.wasi_reply.proofs.SameFields.{Form, form_of, only_last_closes}
 
 -- a word, the kinds of field that follow it, and the reply of such fields
 pub record Row : Type 0 where
@@ -45,6 +45,14 @@ abbrev of_trap : (TrapText → Reply) → List Field → Option Reply
 of_trap make (Field.Trap trap ∷ []) = Some (make trap)
 of_trap make _ = None
 
+abbrev of_texts : (List (List ℕ) → Reply) → List Field → Option Reply
+of_texts make (Field.Texts texts ∷ []) = Some (make texts)
+of_texts make _ = None
+
+abbrev of_pairs : (List (List ℕ × List ℕ) → Reply) → List Field → Option Reply
+of_pairs make (Field.Pairs pairs ∷ []) = Some (make pairs)
+of_pairs make _ = None
+
 abbrev alone : List ℕ → Reply → Row
 alone word it = record { word = word; forms = []; make = of_none it }
 
@@ -63,6 +71,12 @@ kind word make = record { word = word; forms = Form.AsKind ∷ []; make = of_kin
 abbrev trap : List ℕ → (TrapText → Reply) → Row
 trap word make = record { word = word; forms = Form.AsTrap ∷ []; make = of_trap make }
 
+abbrev texts : List ℕ → (List (List ℕ) → Reply) → Row
+texts word make = record { word = word; forms = Form.AsTexts ∷ []; make = of_texts make }
+
+abbrev pairs : List ℕ → (List (List ℕ × List ℕ) → Reply) → Row
+pairs word make = record { word = word; forms = Form.AsPairs ∷ []; make = of_pairs make }
+
 -- one row for each reply
 abbrev rows : List Row
 rows =
@@ -74,6 +88,10 @@ rows =
     ∷ alone (codes "false") (reply.Told (told.Truth false))
     ∷ numbers (codes "time") (λ seconds nanoseconds. reply.Told (told.Time seconds nanoseconds))
     ∷ numbers (codes "seed") (λ low high. reply.Told (told.Seed low high))
+    ∷ pairs (codes "env") (λ variables. reply.Told (told.Environment variables))
+    ∷ texts (codes "args") (λ arguments. reply.Told (told.Arguments arguments))
+    ∷ hex (codes "cwd") (λ cwd. reply.Told (told.Cwd cwd))
+    ∷ alone (codes "none") (reply.Told told.Absent)
     ∷ alone (codes "pending") (reply.Told told.Pending)
     ∷ alone (codes "closed") (reply.Told told.Closed)
     ∷ kind (codes "failed") (λ kind. reply.Told (told.Failed kind))
@@ -101,7 +119,7 @@ reply_of word fields = option_and_then (λ (row : Row). row.make fields) (row_am
 
 pub record ReadsBack (it : Reply) : Type 0 where
   pub forms : forms_after (fields_of it).0 ≡ Some (map form_of (fields_of it).1)
-  pub last : trap_is_last (map form_of (fields_of it).1) ≡ true
+  pub last : only_last_closes (map form_of (fields_of it).1) ≡ true
   pub reply : reply_of (fields_of it).0 (fields_of it).1 ≡ Some it
 
 told_back : (it : Told) → ReadsBack (reply.Told it)

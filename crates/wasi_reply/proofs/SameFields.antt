@@ -1,5 +1,5 @@
 -- Fields of known kinds are the same where their texts are.
-use Rattle.std.proofs.Common.{◌≡◌, ℕ, ◌<◌, ◌^◌, Bool, true, false, List, [], ◌∷◌, ◌++◌, ◌⊎◌, inl, inr, Option, Some, None, refl, ap, arith, ◌∙◌, sym, subst}
+use Rattle.std.proofs.Common.{◌≡◌, ℕ, ◌<◌, ◌^◌, Bool, true, false, List, [], ◌∷◌, ◌++◌, ◌⊎◌, inl, inr, Option, Some, None, refl, ap, arith, ◌∙◌, sym, subst, append_assoc}
 use Rattle.std.specs.Prelude.{cond, codes, map}
 use Rattle.std.specs.Fmt.{decimal}
 use Rattle.std.specs.List.{AllByRecursion}
@@ -14,8 +14,9 @@ use Rattle.wasi_base.specs.declared.trap_text.TrapText.{TrapText}
 use Rattle.wasi_base.specs.declared.trap_text.TrapText.TheVariants as trap
 use Rattle.wasi_base.specs.IoKind.{kind_name, kind_named}
 use Rattle.wasi_base.specs.TrapText.{trap_text}
-use Rattle.wasi_reply.specs.Field.{Field, IsField, IsTrap, hex_of, field_text, fields_text}
-use Rattle.wasi_reply.specs.laws.FieldTexts.{field_word, is_trap}
+use Rattle.wasi_reply.specs.Field.{Field, IsField, IsTrap, hex_of, pair_text, items_text, field_text, fields_text}
+use Rattle.wasi_reply.specs.laws.FieldTexts.{closes, field_word, fields_begin, lacks-hex, lacks-pairs, lacks-texts, word_of}
+use Rattle.wasi_reply.specs.laws.ItemTexts.{same_items}
 use Rattle.wasi_reply.specs.laws.Lacking.{lacks-decimal, same_parts}
 
 pub same_hex : (a b : List ℕ) → IsBytes a → IsBytes b → hex_of a ≡ hex_of b → a ≡ b
@@ -90,46 +91,102 @@ by_numbers a b (inr x) (inr y) in_a in_b e =
 same_trap : (a b : TrapText) → IsTrap a → IsTrap b → trap_text a ≡ trap_text b → a ≡ b
 same_trap a b = by_numbers a b (trap_back a) (trap_back b)
 
+-- ---- lists
+same_hexes : (a b : List (List ℕ)) → AllByRecursion IsBytes a → AllByRecursion IsBytes b → map hex_of a ≡ map hex_of b → a ≡ b
+same_hexes [] [] in_a in_b e = refl
+same_hexes [] (y ∷ b) in_a in_b e = absurd (cc)
+same_hexes (x ∷ a) [] in_a in_b e = absurd (cc)
+same_hexes (x ∷ a) (y ∷ b) in_a in_b e =
+    let hex : hex_of x ≡ hex_of y = cc in
+    let hexes : map hex_of a ≡ map hex_of b = cc in
+    let first = same_hex x y in_a.0 in_b.0 hex in
+    let rest = same_hexes a b in_a.1 in_b.1 hexes in
+    cc
+
+same_texts : (a b : List (List ℕ)) → AllByRecursion IsBytes a → AllByRecursion IsBytes b → items_text (map hex_of a) ≡ items_text (map hex_of b) → a ≡ b
+same_texts a b in_a in_b e = same_hexes a b in_a in_b (same_items (map hex_of a) (map hex_of b) (lacks-texts 44 a (omega arith) refl refl) (lacks-texts 44 b (omega arith) refl refl) e)
+
+abbrev IsPair : List ℕ × List ℕ → Type 0
+IsPair pair = IsBytes pair.0 × IsBytes pair.1
+
+same_pair : (a b : List ℕ × List ℕ) → IsPair a → IsPair b → pair_text a ≡ pair_text b → a ≡ b
+same_pair a b in_a in_b e =
+    let apart = sym (append_assoc (hex_of a.0) (codes "=") (hex_of a.1)) ∙ e ∙ append_assoc (hex_of b.0) (codes "=") (hex_of b.1) in
+    let parts = same_parts 61 (hex_of a.0) (hex_of b.0) (codes "=" ++ hex_of a.1) (codes "=" ++ hex_of b.1) (lacks-hex 61 a.0 (omega arith) refl refl) (lacks-hex 61 b.0 (omega arith) refl refl) refl refl apart in
+    let after : 61 ∷ hex_of a.1 ≡ 61 ∷ hex_of b.1 = parts.1 in
+    let value : hex_of a.1 ≡ hex_of b.1 = cc in
+    let first : a.0 ≡ b.0 = same_hex a.0 b.0 in_a.0 in_b.0 parts.0 in
+    let second : a.1 ≡ b.1 = same_hex a.1 b.1 in_a.1 in_b.1 value in
+    rw (first, second) refl
+
+same_each : (a b : List (List ℕ × List ℕ)) → AllByRecursion IsPair a → AllByRecursion IsPair b → map pair_text a ≡ map pair_text b → a ≡ b
+same_each [] [] in_a in_b e = refl
+same_each [] (y ∷ b) in_a in_b e = absurd (cc)
+same_each (x ∷ a) [] in_a in_b e = absurd (cc)
+same_each (x ∷ a) (y ∷ b) in_a in_b e =
+    let text : pair_text x ≡ pair_text y = cc in
+    let texts : map pair_text a ≡ map pair_text b = cc in
+    let first = same_pair x y in_a.0 in_b.0 text in
+    let rest = same_each a b in_a.1 in_b.1 texts in
+    cc
+
+same_pairs : (a b : List (List ℕ × List ℕ)) → AllByRecursion IsPair a → AllByRecursion IsPair b → items_text (map pair_text a) ≡ items_text (map pair_text b) → a ≡ b
+same_pairs a b in_a in_b e = same_each a b in_a in_b (same_items (map pair_text a) (map pair_text b) (lacks-pairs 44 a (omega arith) refl refl refl) (lacks-pairs 44 b (omega arith) refl refl refl) e)
+
 -- ---- fields
 pub data Form : Type 0 where
   AsNumber : Form
   AsHex : Form
   AsKind : Form
   AsTrap : Form
+  AsTexts : Form
+  AsPairs : Form
 
 abbrev pub form_of : Field → Form
 form_of (Field.Number number) = Form.AsNumber
 form_of (Field.Hex bytes) = Form.AsHex
 form_of (Field.Kind kind) = Form.AsKind
 form_of (Field.Trap trap) = Form.AsTrap
+form_of (Field.Texts texts) = Form.AsTexts
+form_of (Field.Pairs pairs) = Form.AsPairs
+
+-- what follows the space that a text begins with
+after_space : (a b : List ℕ) → 32 ∷ a ≡ 32 ∷ b → a ≡ b
+after_space a b e = cc
 
 same_field : (a b : Field) → form_of a ≡ form_of b → IsField a → IsField b → field_text a ≡ field_text b → a ≡ b
-same_field (Field.Number a) (Field.Number b) form in_a in_b e = ap Field.Number (decimal_injective a b in_a in_b e)
-same_field (Field.Hex a) (Field.Hex b) form in_a in_b e = ap Field.Hex (same_hex a b in_a in_b e)
-same_field (Field.Kind a) (Field.Kind b) form in_a in_b e = ap Field.Kind (same_kind a b e)
-same_field (Field.Trap a) (Field.Trap b) form in_a in_b e = ap Field.Trap (same_trap a b in_a in_b e)
+same_field (Field.Number a) (Field.Number b) form in_a in_b e = ap Field.Number (decimal_injective a b in_a in_b (after_space (decimal a) (decimal b) e))
+same_field (Field.Hex a) (Field.Hex b) form in_a in_b e = ap Field.Hex (same_hex a b in_a in_b (after_space (hex_of a) (hex_of b) e))
+same_field (Field.Kind a) (Field.Kind b) form in_a in_b e = ap Field.Kind (same_kind a b (after_space (kind_name a) (kind_name b) e))
+same_field (Field.Trap a) (Field.Trap b) form in_a in_b e = ap Field.Trap (same_trap a b in_a in_b (after_space (trap_text a) (trap_text b) e))
+same_field (Field.Texts a) (Field.Texts b) form in_a in_b e = ap Field.Texts (same_texts a b in_a in_b e)
+same_field (Field.Pairs a) (Field.Pairs b) form in_a in_b e = ap Field.Pairs (same_pairs a b in_a in_b e)
 same_field a b form in_a in_b e = absurd (cc)
 
--- a trap is the last field
-abbrev pub trap_is_last : List Form → Bool
-trap_is_last [] = true
-trap_is_last (form ∷ []) = true
-trap_is_last (Form.AsTrap ∷ form ∷ forms) = false
-trap_is_last (first ∷ form ∷ forms) = trap_is_last (form ∷ forms)
+-- only the last field may be a trap or a list
+abbrev pub only_last_closes : List Form → Bool
+only_last_closes [] = true
+only_last_closes (form ∷ []) = true
+only_last_closes (Form.AsTrap ∷ form ∷ forms) = false
+only_last_closes (Form.AsTexts ∷ form ∷ forms) = false
+only_last_closes (Form.AsPairs ∷ form ∷ forms) = false
+only_last_closes (first ∷ form ∷ forms) = only_last_closes (form ∷ forms)
 
-spaceless : (field : Field) (next : Form) (forms : List Form) → trap_is_last (form_of field ∷ next ∷ forms) ≡ true → (is_trap field ≡ false) × (trap_is_last (next ∷ forms) ≡ true)
+spaceless : (field : Field) (next : Form) (forms : List Form) → only_last_closes (form_of field ∷ next ∷ forms) ≡ true → (closes field ≡ false) × (only_last_closes (next ∷ forms) ≡ true)
 spaceless (Field.Number number) next forms e = (refl, e)
 spaceless (Field.Hex bytes) next forms e = (refl, e)
 spaceless (Field.Kind kind) next forms e = (refl, e)
 spaceless (Field.Trap trap) next forms e = absurd (cc)
+spaceless (Field.Texts texts) next forms e = absurd (cc)
+spaceless (Field.Pairs pairs) next forms e = absurd (cc)
 
-pub same_fields : (fields others : List Field) → map form_of fields ≡ map form_of others → trap_is_last (map form_of fields) ≡ true → AllByRecursion IsField fields → AllByRecursion IsField others → fields_text fields ≡ fields_text others → fields ≡ others
+pub same_fields : (fields others : List Field) → map form_of fields ≡ map form_of others → only_last_closes (map form_of fields) ≡ true → AllByRecursion IsField fields → AllByRecursion IsField others → fields_text fields ≡ fields_text others → fields ≡ others
 same_fields [] [] forms last in_a in_b e = refl
 same_fields [] (b ∷ others) forms last in_a in_b e = absurd (cc)
 same_fields (a ∷ fields) [] forms last in_a in_b e = absurd (cc)
 same_fields (a ∷ []) (b ∷ []) forms last in_a in_b e =
     let form : form_of a ≡ form_of b = cc in
-    let text : field_text a ++ [] ≡ field_text b ++ [] = cc in
+    let text : field_text a ++ [] ≡ field_text b ++ [] = e in
     let same = same_field a b form in_a.0 in_b.0 (sym (append-nil (field_text a)) ∙ text ∙ append-nil (field_text b)) in
     cc
 same_fields (a ∷ []) (b ∷ b2 ∷ others) forms last in_a in_b e = absurd (cc)
@@ -138,9 +195,11 @@ same_fields (a ∷ a2 ∷ fields) (b ∷ b2 ∷ others) forms last in_a in_b e =
     let form : form_of a ≡ form_of b = cc in
     let more : map form_of (a2 ∷ fields) ≡ map form_of (b2 ∷ others) = cc in
     let here = spaceless a (form_of a2) (map form_of fields) last in
-    let there = spaceless b (form_of b2) (map form_of others) (subst (λ list. trap_is_last list ≡ true) forms last) in
-    let text : field_text a ++ fields_text (a2 ∷ fields) ≡ field_text b ++ fields_text (b2 ∷ others) = cc in
-    let parts = same_parts 32 (field_text a) (field_text b) (fields_text (a2 ∷ fields)) (fields_text (b2 ∷ others)) (field_word a here.0) (field_word b there.0) refl refl text in
-    let first = same_field a b form in_a.0 in_b.0 parts.0 in
+    let there = spaceless b (form_of b2) (map form_of others) (subst (λ list. only_last_closes list ≡ true) forms last) in
+    let word = field_word a here.0 in
+    let word_too = field_word b there.0 in
+    let text : (32 ∷ word_of a) ++ fields_text (a2 ∷ fields) ≡ (32 ∷ word_of b) ++ fields_text (b2 ∷ others) = subst (λ text. text ++ fields_text (a2 ∷ fields) ≡ (32 ∷ word_of b) ++ fields_text (b2 ∷ others)) word.0 (subst (λ text. field_text a ++ fields_text (a2 ∷ fields) ≡ text ++ fields_text (b2 ∷ others)) word_too.0 e) in
+    let parts = same_parts 32 (word_of a) (word_of b) (fields_text (a2 ∷ fields)) (fields_text (b2 ∷ others)) word.1 word_too.1 (fields_begin (a2 ∷ fields)) (fields_begin (b2 ∷ others)) (after_space (word_of a ++ fields_text (a2 ∷ fields)) (word_of b ++ fields_text (b2 ∷ others)) text) in
+    let first = same_field a b form in_a.0 in_b.0 (word.0 ∙ ap (λ text. 32 ∷ text) parts.0 ∙ sym word_too.0) in
     let rest = same_fields (a2 ∷ fields) (b2 ∷ others) more here.1 in_a.1 in_b.1 parts.1 in
     cc

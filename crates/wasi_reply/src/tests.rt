@@ -1,4 +1,4 @@
-use crate::{Piece, Reply, Told, Worked, push_line, push_output};
+use crate::{Piece, Reply, Text, TextPairs, Texts, Told, Worked, push_line, push_output};
 use bytes::Bytes;
 use std::alloc::Global;
 use std::test::Fail;
@@ -46,6 +46,51 @@ fn calls_reply(rt: HostRuntime) -> Result<(), Fail> {
     assert_eq!(rt;
         text.as_slice(),
         b"handle 4294967295\nok\nbytes 009fff\nbytes -\ncount 18446744073709551615\ntrue\nfalse\ntime 18446744073709551615 999999999\nseed 18446744073709551615 0\npending\nclosed\nfailed brokenpipe\ntrap resource not present\ntrap requested len 65 exceeds limit 64\nexit 255\nended\n".as_slice()
+    );
+    Ok(())
+}
+
+fn pairs_of(alloc: Global, pairs: &[(&str, &str)]) -> Result<Reply, OutOfMemory> {
+    let mut kept = Vec::new(alloc);
+    for pair in pairs {
+        kept.push((
+            String::from_str(alloc, pair.0)?,
+            String::from_str(alloc, pair.1)?,
+        ))?;
+    }
+    Ok(Reply::Told(Told::Environment(TextPairs::new(kept))))
+}
+
+fn texts_of(alloc: Global, texts: &[&str]) -> Result<Reply, OutOfMemory> {
+    let mut kept = Vec::new(alloc);
+    for text in texts {
+        kept.push(String::from_str(alloc, text)?)?;
+    }
+    Ok(Reply::Told(Told::Arguments(Texts::new(kept))))
+}
+
+fn cwd_of(alloc: Global, text: &str) -> Result<Reply, OutOfMemory> {
+    Ok(Reply::Told(Told::Cwd(Text::new(String::from_str(alloc, text)?))))
+}
+
+#[test]
+fn the_environment_is_told(rt: HostRuntime) -> Result<(), Fail> {
+    let alloc = rt.alloc();
+    let replies = [
+        pairs_of(alloc, &[])?,
+        pairs_of(alloc, &[("A", "")])?,
+        pairs_of(alloc, &[("A=", "b,"), ("é", "ÿ")])?,
+        texts_of(alloc, &[])?,
+        texts_of(alloc, &[""])?,
+        texts_of(alloc, &["", "-", "é\n"])?,
+        cwd_of(alloc, "")?,
+        cwd_of(alloc, "/a")?,
+        Reply::Told(Told::Absent),
+    ];
+    let text = text_of(alloc, &replies)?;
+    assert_eq!(rt;
+        text.as_slice(),
+        b"env\nenv 41=-\nenv 413d=622c,c3a9=c3bf\nargs\nargs -\nargs -,2d,c3a90a\ncwd -\ncwd 2f61\nnone\n".as_slice()
     );
     Ok(())
 }

@@ -1,9 +1,10 @@
 ghost use Rattle.std.specs.Prelude.{◌≡◌, OnOk, OnErr, ◌++◌, [], ◌∷◌, codes, length, take};
 ghost use Rattle.std.specs.List.{AllByRecursion};
 ghost use Rattle.hex.specs.Hex.{IsBytes, encode_lower};
-ghost use Rattle.wasi_reply.specs.Field.{Field, IsField, IsTrap, worded};
+ghost use Rattle.wasi_reply.specs.Field.{Field, IsField, IsTrap, hex_of, pair_text, worded};
 ghost use Rattle.wasi_reply.specs.Reply.{IsReply, told_fields, worked_fields, text_of, reply_line};
 ghost use Rattle.wasi_reply.specs.Outputs.{output_line};
+ghost use Rattle.wasi_reply.specs.Texts.{text_pair, text_pairs, texts};
 
 use crate::{Reply, Told, Worked};
 use itoa::Buffer;
@@ -52,6 +53,19 @@ fn push_digits(text: &mut Vec<u8>, bytes: &[u8]) -> Result<(), OutOfMemory>
     }
 }
 
+fn push_digits_or_dash(text: &mut Vec<u8>, bytes: &[u8]) -> Result<(), OutOfMemory>
+    ensures ok { OnOk result (text.new.items ≡ text.old.items ++ hex_of bytes.now) }
+    ensures err { OnErr result (take (length text.old.items) text.new.items ≡ text.old.items) }
+    ensures in_range { IsBytes bytes.now }
+{
+    if bytes.is_empty() {
+        text.push(b'-')?;
+    } else {
+        push_digits(text, bytes)?;
+    }
+    Ok(())
+}
+
 fn push_hex(text: &mut Vec<u8>, word: &[u8], bytes: &[u8]) -> Result<(), OutOfMemory>
     ensures ok { OnOk result (text.new.items ≡ text.old.items ++ worded (word.now, Field.Hex bytes.now ∷ [])) }
     ensures err { OnErr result (take (length text.old.items) text.new.items ≡ text.old.items) }
@@ -59,10 +73,48 @@ fn push_hex(text: &mut Vec<u8>, word: &[u8], bytes: &[u8]) -> Result<(), OutOfMe
 {
     text.extend_from_slice(word)?;
     text.push(b' ')?;
-    if bytes.is_empty() {
-        text.push(b'-')?;
-    } else {
-        push_digits(text, bytes)?;
+    push_digits_or_dash(text, bytes)
+}
+
+fn push_texts(text: &mut Vec<u8>, word: &[u8], list: &[String]) -> Result<(), OutOfMemory>
+    ensures ok { OnOk result (text.new.items ≡ text.old.items ++ worded (word.now, Field.Texts (texts list.now) ∷ [])) }
+    ensures err { OnErr result (take (length text.old.items) text.new.items ≡ text.old.items) }
+    ensures in_range { IsField (Field.Texts (texts list.now)) }
+{
+    let mut before = b' ';
+    text.extend_from_slice(word)?;
+    for item in list {
+        text.push(before)?;
+        push_digits_or_dash(text, item.as_bytes())?;
+        before = b',';
+    }
+    Ok(())
+}
+
+fn push_pair(text: &mut Vec<u8>, pair: &(String, String)) -> Result<(), OutOfMemory>
+    ensures ok { OnOk result (text.new.items ≡ text.old.items ++ pair_text (text_pair pair.now)) }
+    ensures err { OnErr result (take (length text.old.items) text.new.items ≡ text.old.items) }
+{
+    push_digits_or_dash(text, pair.0.as_bytes())?;
+    text.push(b'=')?;
+    push_digits_or_dash(text, pair.1.as_bytes())
+}
+
+fn push_pairs(
+    text: &mut Vec<u8>,
+    word: &[u8],
+    pairs: &[(String, String)],
+) -> Result<(), OutOfMemory>
+    ensures ok { OnOk result (text.new.items ≡ text.old.items ++ worded (word.now, Field.Pairs (text_pairs pairs.now) ∷ [])) }
+    ensures err { OnErr result (take (length text.old.items) text.new.items ≡ text.old.items) }
+    ensures in_range { IsField (Field.Pairs (text_pairs pairs.now)) }
+{
+    let mut before = b' ';
+    text.extend_from_slice(word)?;
+    for pair in pairs {
+        text.push(before)?;
+        push_pair(text, pair)?;
+        before = b',';
     }
     Ok(())
 }
@@ -110,6 +162,10 @@ fn push_told(alloc: Global, text: &mut Vec<u8>, told: &Told) -> Result<(), OutOf
             nanoseconds,
         } => push_numbers(text, b"time", *seconds, u64::from(*nanoseconds)),
         Told::Seed { low, high } => push_numbers(text, b"seed", *low, *high),
+        Told::Environment(variables) => push_pairs(text, b"env", variables.as_slice()),
+        Told::Arguments(arguments) => push_texts(text, b"args", arguments.as_slice()),
+        Told::Cwd(cwd) => push_hex(text, b"cwd", cwd.as_str().as_bytes()),
+        Told::Absent => push_word(text, b"none"),
         Told::Pending => push_word(text, b"pending"),
         Told::Closed => push_word(text, b"closed"),
         Told::Failed(kind) => push_kind(text, b"failed", *kind),

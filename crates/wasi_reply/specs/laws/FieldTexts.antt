@@ -1,7 +1,8 @@
--- No field's text holds a line's end, and none but a trap's holds a space.
+-- No field's text holds a line's end, and none but a trap's holds a space past its first.
 use Rattle.std.proofs.Common.{◌≡◌, ◌≢◌, ℕ, zero, suc, ◌/◌, ◌%◌, ◌<◌, Bool, true, false, List, [], ◌∷◌, ◌++◌, get_or, refl, arith}
-use Rattle.std.specs.Prelude.{codes}
+use Rattle.std.specs.Prelude.{codes, map}
 use Rattle.std.specs.Fmt.{decimal}
+use Rattle.std.specs.List.{AllByRecursion}
 use Rattle.hex.specs.Hex.{encode_with, encode_lower, lower_digits}
 use Rattle.wasi_base.specs.declared.io_kind.IoKind.{IoKind}
 use Rattle.wasi_base.specs.declared.io_kind.IoKind.TheVariants as kind
@@ -9,7 +10,8 @@ use Rattle.wasi_base.specs.declared.trap_text.TrapText.{TrapText}
 use Rattle.wasi_base.specs.declared.trap_text.TrapText.TheVariants as trap
 use Rattle.wasi_base.specs.IoKind.{kind_name}
 use Rattle.wasi_base.specs.TrapText.{trap_text}
-use Rattle.wasi_reply.specs.Field.{Field, hex_of, field_text, fields_text}
+use Rattle.wasi_reply.specs.Field.{Field, hex_of, pair_text, field_text, fields_text}
+use Rattle.wasi_reply.specs.laws.ItemTexts.{items_begin, lacks-items}
 use Rattle.wasi_reply.specs.laws.Lacking.{Lacks, BeginsIfAny, has, lacking, lacks-append, lacks-decimal}
 
 -- past the sixteen digits stands 0
@@ -23,7 +25,7 @@ unfolding encode_with
 lacks-encoded byte [] above h = tt
 lacks-encoded byte (first ∷ bytes) above h = (lacks-digit byte lower_digits (first / 16) above h, (lacks-digit byte lower_digits (first % 16) above h, lacks-encoded byte bytes above h))
 
-lacks-hex : (byte : ℕ) (bytes : List ℕ) → 0 < byte → has byte (codes "-") ≡ false → has byte lower_digits ≡ false → Lacks byte (hex_of bytes)
+pub lacks-hex : (byte : ℕ) (bytes : List ℕ) → 0 < byte → has byte (codes "-") ≡ false → has byte lower_digits ≡ false → Lacks byte (hex_of bytes)
 lacks-hex byte [] above dash digits = lacking byte (codes "-") dash
 lacks-hex byte (first ∷ bytes) above dash digits = lacks-encoded byte (first ∷ bytes) above (lacking byte lower_digits digits)
 
@@ -38,26 +40,61 @@ lacks-trap (trap.RequestedLength length limit) =
     lacks-append 10 (codes "requested len ") (decimal length ++ (codes " exceeds limit " ++ decimal limit)) (lacking 10 (codes "requested len ") refl) numbers
 lacks-trap other = lacking 10 (trap_text other) refl
 
+-- the texts of a list, and the pairs
+pub lacks-texts : (byte : ℕ) (texts : List (List ℕ)) → 0 < byte → has byte (codes "-") ≡ false → has byte lower_digits ≡ false → AllByRecursion (Lacks byte) (map hex_of texts)
+lacks-texts byte [] above dash digits = tt
+lacks-texts byte (first ∷ texts) above dash digits = (lacks-hex byte first above dash digits, lacks-texts byte texts above dash digits)
+
+lacks-pair : (byte : ℕ) (pair : List ℕ × List ℕ) → 0 < byte → has byte (codes "-") ≡ false → has byte (codes "=") ≡ false → has byte lower_digits ≡ false → Lacks byte (pair_text pair)
+lacks-pair byte pair above dash equals digits =
+    let key = lacks-append byte (hex_of pair.0) (codes "=") (lacks-hex byte pair.0 above dash digits) (lacking byte (codes "=") equals) in
+    lacks-append byte (hex_of pair.0 ++ codes "=") (hex_of pair.1) key (lacks-hex byte pair.1 above dash digits)
+
+pub lacks-pairs : (byte : ℕ) (pairs : List (List ℕ × List ℕ)) → 0 < byte → has byte (codes "-") ≡ false → has byte (codes "=") ≡ false → has byte lower_digits ≡ false → AllByRecursion (Lacks byte) (map pair_text pairs)
+lacks-pairs byte [] above dash equals digits = tt
+lacks-pairs byte (first ∷ pairs) above dash equals digits = (lacks-pair byte first above dash equals digits, lacks-pairs byte pairs above dash equals digits)
+
 pub field_line : (field : Field) → Lacks 10 (field_text field)
-field_line (Field.Number number) = lacks-decimal 10 number (omega arith)
-field_line (Field.Hex bytes) = lacks-hex 10 bytes (omega arith) refl refl
-field_line (Field.Kind kind) = lacking 10 (kind_name kind) (lacks-kind kind).0
-field_line (Field.Trap trap) = lacks-trap trap
+field_line (Field.Number number) = (omega arith, lacks-decimal 10 number (omega arith))
+field_line (Field.Hex bytes) = (omega arith, lacks-hex 10 bytes (omega arith) refl refl)
+field_line (Field.Kind kind) = (omega arith, lacking 10 (kind_name kind) (lacks-kind kind).0)
+field_line (Field.Trap trap) = (omega arith, lacks-trap trap)
+field_line (Field.Texts texts) = lacks-items 10 (map hex_of texts) (omega arith) (lacks-texts 10 texts (omega arith) refl refl)
+field_line (Field.Pairs pairs) = lacks-items 10 (map pair_text pairs) (omega arith) (lacks-pairs 10 pairs (omega arith) refl refl refl)
 
-abbrev pub is_trap : Field → Bool
-is_trap (Field.Trap trap) = true
-is_trap other = false
+-- a reply's last field
+abbrev pub closes : Field → Bool
+closes (Field.Number number) = false
+closes (Field.Hex bytes) = false
+closes (Field.Kind kind) = false
+closes other = true
 
-pub field_word : (field : Field) → is_trap field ≡ false → Lacks 32 (field_text field)
-field_word (Field.Number number) e = lacks-decimal 32 number (omega arith)
-field_word (Field.Hex bytes) e = lacks-hex 32 bytes (omega arith) refl refl
-field_word (Field.Kind kind) e = lacking 32 (kind_name kind) (lacks-kind kind).1
-field_word (Field.Trap trap) e = absurd (cc)
+-- the text of any other field after its space
+abbrev pub word_of : Field → List ℕ
+word_of (Field.Number number) = decimal number
+word_of (Field.Hex bytes) = hex_of bytes
+word_of (Field.Kind kind) = kind_name kind
+word_of other = []
+
+pub field_word : (field : Field) → closes field ≡ false → (field_text field ≡ 32 ∷ word_of field) × Lacks 32 (word_of field)
+field_word (Field.Number number) e = (refl, lacks-decimal 32 number (omega arith))
+field_word (Field.Hex bytes) e = (refl, lacks-hex 32 bytes (omega arith) refl refl)
+field_word (Field.Kind kind) e = (refl, lacking 32 (kind_name kind) (lacks-kind kind).1)
+field_word other e = absurd (cc)
 
 pub fields_line : (fields : List Field) → Lacks 10 (fields_text fields)
 fields_line [] = tt
-fields_line (field ∷ fields) = lacks-append 10 (codes " " ++ field_text field) (fields_text fields) (omega arith, field_line field) (fields_line fields)
+fields_line (field ∷ fields) = lacks-append 10 (field_text field) (fields_text fields) (field_line field) (fields_line fields)
+
+begins-append : (byte : ℕ) (a b : List ℕ) → BeginsIfAny byte a → BeginsIfAny byte b → BeginsIfAny byte (a ++ b)
+begins-append byte [] b h k = k
+begins-append byte (x ∷ a) b h k = h
+
+field_begins : (field : Field) → BeginsIfAny 32 (field_text field)
+field_begins (Field.Texts texts) = items_begin (map hex_of texts)
+field_begins (Field.Pairs pairs) = items_begin (map pair_text pairs)
+field_begins other = refl
 
 pub fields_begin : (fields : List Field) → BeginsIfAny 32 (fields_text fields)
 fields_begin [] = tt
-fields_begin (field ∷ fields) = refl
+fields_begin (field ∷ fields) = begins-append 32 (field_text field) (fields_text fields) (field_begins field) (fields_begin fields)
