@@ -1,13 +1,13 @@
 -- Which scripts are valid, and the steps that they stand for.
 use Rattle.std.specs.Prelude.{◌≡◌, ℕ, ◌+◌, Bool, true, false, cond, not, ◌&&◌, nat_eq, nat_le, nat_lt, List, [], ◌∷◌, ◌++◌, length, Option, Some, None, codes}
-use Rattle.std.specs.List.{list_any}
+use Rattle.std.specs.List.{list_any, slice_split}
 use Rattle.std.specs.Option.{option_map}
 use Rattle.std.specs.Str.{bytes_eq}
 pub use Rattle.wasi_words.specs.Fields.{Form, meaning_by, lines_of}
 use Rattle.wasi_script.specs.Fields.{words_of, guest_of, number_of, u128_of, capacity_of, room_of, budget_of, exit_code_of, is_at_end, with_first, with_last, two_fields}
 use Rattle.wasi_script.specs.Name.{name_of}
 use Rattle.wasi_script.specs.Times.{time_of}
-use Rattle.wasi_script.specs.Bytes.{byte_string_of, declared_bytes_of}
+use Rattle.wasi_script.specs.Bytes.{byte_string_of, declared_bytes_of, text_of}
 use Rattle.wasi_script.specs.Plans.{read_plan_of, write_plan_of}
 use Rattle.wasi_base.specs.declared.source.Plan.{Plan}
 use Rattle.wasi_base.specs.declared.sink.SinkPlan.{SinkPlan}
@@ -54,19 +54,29 @@ without_fields it fields = cond (is_at_end fields) (Some it) None
 abbrev pub input_of : List ℕ → Option Input
 input_of word =
     cond (bytes_eq word (codes "shared")) (Some input.Shared)
+    (cond (bytes_eq word (codes "terminal")) (Some input.Terminal)
     (cond (bytes_eq word (codes "empty")) (Some input.Empty)
-    (cond (bytes_eq word (codes "closed")) (Some input.Closed) (option_map input.Named (name_of word))))
+    (cond (bytes_eq word (codes "closed")) (Some input.Closed) (option_map input.Named (name_of word)))))
+
+-- a name, with `@tty` after it for a terminal
+abbrev pub named_output : List ℕ → List (List ℕ) → Option Output
+named_output name [] = Some (output.Named name)
+named_output name (mark ∷ marks) = cond (bytes_eq mark (codes "tty")) (without_fields (output.Terminal name) marks) None
+
+abbrev pub named_output_of : List ℕ → Option Output
+named_output_of word = with_first name_of named_output (slice_split (λ byte. nat_eq byte 64) word)
 
 abbrev pub output_of : List ℕ → Option Output
 output_of word =
     cond (bytes_eq word (codes "empty")) (Some output.Empty)
     (cond (bytes_eq word (codes "sink")) (Some output.Sink)
-    (cond (bytes_eq word (codes "closed")) (Some output.Closed) (option_map output.Named (name_of word))))
+    (cond (bytes_eq word (codes "closed")) (Some output.Closed) (named_output_of word)))
 
 abbrev pub exit_of : List ℕ → Option ExitStatus
 exit_of word = cond (bytes_eq word (codes "ok")) (Some exit.Ok) (cond (bytes_eq word (codes "err")) (Some exit.Err) None)
 
--- the calls that open a standard stream, those on an entry, those on the clocks and on the random sources, and the others
+-- the calls that open a standard stream, those on an entry, those on the clocks, on the random sources and on terminals,
+-- and the others
 abbrev pub open_calls : List (Form Call)
 open_calls =
     (codes "get-stdin", without_fields (call.Open standard.Input access.Plain))
@@ -75,6 +85,13 @@ open_calls =
     ∷ (codes "async-stdin", without_fields (call.Open standard.Input access.Polled))
     ∷ (codes "async-stdout", without_fields (call.Open standard.Output access.Polled))
     ∷ (codes "async-stderr", without_fields (call.Open standard.Error access.Polled))
+    ∷ []
+
+abbrev pub terminal_calls : List (Form Call)
+terminal_calls =
+    (codes "terminal-stdin", without_fields (call.Terminal standard.Input))
+    ∷ (codes "terminal-stdout", without_fields (call.Terminal standard.Output))
+    ∷ (codes "terminal-stderr", without_fields (call.Terminal standard.Error))
     ∷ []
 
 -- a call on the entry of a number, without more fields and with one
@@ -104,6 +121,9 @@ other_calls =
     (codes "drop", with_last number_of call.Drop)
     ∷ (codes "exit", with_last exit_of (λ status. call.Own (own.Exit status)))
     ∷ (codes "exit-code", with_last exit_code_of (λ code. call.Own (own.ExitCode code)))
+    ∷ (codes "get-environment", without_fields (call.Own own.Environment))
+    ∷ (codes "get-arguments", without_fields (call.Own own.Arguments))
+    ∷ (codes "initial-cwd", without_fields (call.Own own.InitialCwd))
     ∷ []
 
 -- a call on the clocks, without fields and with a number
@@ -146,7 +166,7 @@ random_calls =
     ∷ []
 
 abbrev pub call_of : List (List ℕ) → Option Call
-call_of = meaning_by (open_calls ++ (entry_calls ++ (other_calls ++ (clock_calls ++ random_calls))))
+call_of = meaning_by (open_calls ++ (entry_calls ++ (other_calls ++ (clock_calls ++ (random_calls ++ terminal_calls)))))
 
 -- the steps' fields
 abbrev pub pipe_of : List (List ℕ) → Option Line
@@ -178,6 +198,10 @@ guest_line_of = with_first guest_of (λ guest. with_last input_of (line.Guest gu
 -- a guest, and a setting of it
 abbrev pub setting_of : {A : Type 0} → (List ℕ → Option A) → (A → Setting) → List (List ℕ) → Option Line
 setting_of field it fields = option_map (λ both. line.Configure both.0 (it both.1)) (two_fields guest_of field fields)
+
+-- a guest, and a variable of its environment
+abbrev pub env_of : List (List ℕ) → Option Line
+env_of = with_first guest_of (λ guest. with_first text_of (λ key. with_last text_of (λ value. line.Configure guest (setting.Env key value))))
 
 -- a random source of a guest, and what it is set to
 abbrev pub source_of_word : List ℕ → Option RandomSource
@@ -211,7 +235,7 @@ clock_settings =
 abbrev pub clock_of : List (List ℕ) → Option Line
 clock_of fields = option_map line.Clock (meaning_by clock_settings fields)
 
--- the steps that declare streams, and the others
+-- the steps that declare streams, those that say more of a guest, and the others
 abbrev pub stream_lines : List (Form Line)
 stream_lines =
     (codes "pipe", pipe_of)
@@ -226,21 +250,28 @@ stream_lines =
 abbrev pub other_lines : List (Form Line)
 other_lines =
     (codes "guest", guest_line_of)
-    ∷ (codes "stdout", setting_of output_of setting.Stdout)
-    ∷ (codes "stderr", setting_of output_of setting.Stderr)
-    ∷ (codes "capacity", setting_of capacity_of setting.Capacity)
-    ∷ (codes "random", source_set byte_string_of setting.Random)
-    ∷ (codes "seeded", source_set number_of setting.Seeded)
-    ∷ (codes "seed", setting_of u128_of setting.InsecureSeed)
-    ∷ (codes "maxrandom", setting_of number_of setting.MaxRandom)
     ∷ (codes "capture", without_fields (line.Worker turn.Capture))
     ∷ (codes "deliver", without_fields (line.Worker turn.Deliver))
     ∷ (codes "turn", turn_of)
     ∷ (codes "clock", clock_of)
     ∷ []
 
+abbrev pub setting_lines : List (Form Line)
+setting_lines =
+    (codes "stdout", setting_of output_of setting.Stdout)
+    ∷ (codes "stderr", setting_of output_of setting.Stderr)
+    ∷ (codes "capacity", setting_of capacity_of setting.Capacity)
+    ∷ (codes "env", env_of)
+    ∷ (codes "arg", setting_of text_of setting.Arg)
+    ∷ (codes "cwd", setting_of text_of setting.Cwd)
+    ∷ (codes "random", source_set byte_string_of setting.Random)
+    ∷ (codes "seeded", source_set number_of setting.Seeded)
+    ∷ (codes "seed", setting_of u128_of setting.InsecureSeed)
+    ∷ (codes "maxrandom", setting_of number_of setting.MaxRandom)
+    ∷ []
+
 abbrev pub line_of : List (List ℕ) → Option Line
-line_of = meaning_by ((codes "call", call_line_of) ∷ stream_lines ++ other_lines)
+line_of = meaning_by ((codes "call", call_line_of) ∷ stream_lines ++ (other_lines ++ setting_lines))
 
 abbrev pub step_or_invalid : Option Line → Reading
 step_or_invalid None = Invalid

@@ -1,6 +1,6 @@
 ghost use Rattle.std.specs.Prelude.{◌≡◌, length, IfOk};
-ghost use Rattle.wasi_script.specs.Bytes.{hex_of, byte_of, repeated_of, byte_string_of, declared_bytes_of, declared_bytes};
-ghost use Rattle.wasi_script.specs.Reads.{Reads};
+ghost use Rattle.wasi_script.specs.Bytes.{hex_of, byte_of, plain_bytes_of, repeated_of, byte_string_of, declared_bytes_of, declared_bytes};
+ghost use Rattle.wasi_script.specs.Reads.{Reads, ReadsItems};
 
 use crate::numbers::parse_count;
 use crate::refusal::Refusal;
@@ -83,7 +83,7 @@ impl ByteString {
         }
         match ByteString::repeated(Parts::new(text, b'*')) {
             Some(bytes) => Ok(bytes),
-            None => ByteString::listed(alloc, text),
+            None => Ok(ByteString::from_vec(read_digits(alloc, text)?)),
         }
     }
 
@@ -116,19 +116,30 @@ impl ByteString {
             kept: Kept::Repeated { count, byte },
         })
     }
+}
 
-    // one byte at least, in hexadecimal
-    fn listed(alloc: Global, text: &[u8]) -> Result<ByteString, Refusal>
-        ensures { Reads result (hex_of text.now) }
-    {
-        if text.is_empty() {
-            return Err(Refusal::Invalid);
-        }
-        match hex::decode(alloc, text) {
-            Ok(bytes) => Ok(ByteString::from_vec(bytes)),
-            Err(FromHexError::OutOfMemory) => Err(Refusal::OutOfMemory),
-            Err(_) => Err(Refusal::Invalid),
-        }
+/// The bytes that a text stands for without the form `K*HH`: `-`, or hexadecimal digits.
+pub fn read_plain_bytes(alloc: Global, text: &[u8]) -> Result<Vec<u8>, Refusal>
+    ensures { ReadsItems result (plain_bytes_of text.now) }
+{
+    if is(text, b"-") {
+        Ok(Vec::new(alloc))
+    } else {
+        read_digits(alloc, text)
+    }
+}
+
+// one byte at least, in hexadecimal
+fn read_digits(alloc: Global, text: &[u8]) -> Result<Vec<u8>, Refusal>
+    ensures { ReadsItems result (hex_of text.now) }
+{
+    if text.is_empty() {
+        return Err(Refusal::Invalid);
+    }
+    match hex::decode(alloc, text) {
+        Ok(bytes) => Ok(bytes),
+        Err(FromHexError::OutOfMemory) => Err(Refusal::OutOfMemory),
+        Err(_) => Err(Refusal::Invalid),
     }
 }
 

@@ -1,8 +1,9 @@
 ghost use Rattle.std.specs.Prelude.{◌≡◌, ◌∷◌, ◌++◌, IfOk};
-ghost use Rattle.wasi_script.specs.Grammar.{meaning_by, without_fields, entry_calls, other_calls, clock_calls, random_calls, clock_settings, on_clocks, on_random, source_of_word, source_set, other_lines, call_of, line_of, pipe_of, source_fields, out_pipe_of, sink_fields, buffered_of, turn_of, clock_of, guest_line_of, call_line_of, on_number as on_number_of, reading_of, exit_of, input_of, output_of};
-ghost use Rattle.wasi_script.specs.Fields.{two_fields, guest_of, number_of, u128_of, capacity_of};
+ghost use Rattle.wasi_script.specs.Grammar.{meaning_by, without_fields, entry_calls, other_calls, clock_calls, random_calls, terminal_calls, clock_settings, on_clocks, on_random, source_of_word, source_set, other_lines, setting_lines, env_of, call_of, line_of, pipe_of, source_fields, out_pipe_of, sink_fields, buffered_of, turn_of, clock_of, guest_line_of, call_line_of, on_number as on_number_of, reading_of, exit_of, input_of, output_of, named_output};
+ghost use Rattle.wasi_script.specs.Fields.{with_first, two_fields, guest_of, number_of, u128_of, capacity_of};
+ghost use Rattle.wasi_script.specs.Name.{name_of};
 ghost use Rattle.wasi_script.specs.declared.lines.Setting.TheVariants as setting;
-ghost use Rattle.wasi_script.specs.Bytes.{byte_string_of};
+ghost use Rattle.wasi_script.specs.Bytes.{byte_string_of, text_of};
 ghost use Rattle.wasi_script.specs.declared.lines.Call.TheVariants as call;
 ghost use Rattle.wasi_script.specs.declared.lines.OwnCall.TheVariants as own;
 ghost use Rattle.wasi_script.specs.declared.lines.RandomCall.TheVariants as random;
@@ -19,6 +20,7 @@ use crate::name::Name;
 use crate::numbers::{parse_budget, parse_capacity, parse_exit_code, parse_guest, parse_room};
 use crate::plan::{ReadPlan, WritePlan};
 use crate::refusal::Refusal;
+use crate::text::Text;
 use crate::times::parse_time;
 use std::alloc::Global;
 use wasi_base::OutOfMemory;
@@ -76,13 +78,31 @@ fn parse_line(alloc: Global, mut words: Parts) -> Result<Line, Refusal>
     }
 }
 
-// a line that declares no stream
+// a line that declares no stream and makes no call
 fn parse_other_line(alloc: Global, word: &[u8], words: Parts) -> Result<Line, Refusal>
-    ensures { Reads result (meaning_by other_lines (word.now ∷ words.entry)) }
+    ensures { Reads result (meaning_by (other_lines ++ setting_lines) (word.now ∷ words.entry)) }
 {
     if is(word, b"guest") {
         parse_guest_line(alloc, words)
-    } else if is(word, b"stdout") {
+    } else if is(word, b"capture") {
+        worker(words, WorkerTurn::Capture)
+    } else if is(word, b"deliver") {
+        worker(words, WorkerTurn::Deliver)
+    } else if is(word, b"turn") {
+        parse_turn(alloc, words)
+    } else if is(word, b"clock") {
+        let setting = parse_clock_setting(words).ok_or(Refusal::Invalid)?;
+        Ok(Line::Clock(setting))
+    } else {
+        parse_setting_line(alloc, word, words)
+    }
+}
+
+// a line that says more of a guest
+fn parse_setting_line(alloc: Global, word: &[u8], words: Parts) -> Result<Line, Refusal>
+    ensures { Reads result (meaning_by setting_lines (word.now ∷ words.entry)) }
+{
+    if is(word, b"stdout") {
         let (guest, output) = guest_and_output(alloc, words)?;
         Ok(configure(guest, Setting::Stdout(output)))
     } else if is(word, b"stderr") {
@@ -91,6 +111,14 @@ fn parse_other_line(alloc: Global, word: &[u8], words: Parts) -> Result<Line, Re
     } else if is(word, b"capacity") {
         let (guest, capacity) = guest_and_capacity(words).ok_or(Refusal::Invalid)?;
         Ok(configure(guest, Setting::Capacity(capacity)))
+    } else if is(word, b"env") {
+        parse_env_line(alloc, words)
+    } else if is(word, b"arg") {
+        let (guest, text) = guest_and_text(alloc, words)?;
+        Ok(configure(guest, Setting::Arg(text)))
+    } else if is(word, b"cwd") {
+        let (guest, text) = guest_and_text(alloc, words)?;
+        Ok(configure(guest, Setting::Cwd(text)))
     } else if is(word, b"random") {
         parse_random_line(alloc, words)
     } else if is(word, b"seeded") {
@@ -101,15 +129,6 @@ fn parse_other_line(alloc: Global, word: &[u8], words: Parts) -> Result<Line, Re
     } else if is(word, b"maxrandom") {
         let (guest, size) = guest_and_number(words).ok_or(Refusal::Invalid)?;
         Ok(configure(guest, Setting::MaxRandom(size)))
-    } else if is(word, b"capture") {
-        worker(words, WorkerTurn::Capture)
-    } else if is(word, b"deliver") {
-        worker(words, WorkerTurn::Deliver)
-    } else if is(word, b"turn") {
-        parse_turn(alloc, words)
-    } else if is(word, b"clock") {
-        let setting = parse_clock_setting(words).ok_or(Refusal::Invalid)?;
-        Ok(Line::Clock(setting))
     } else {
         Err(Refusal::Invalid)
     }
@@ -270,6 +289,25 @@ fn guest_and_number(mut words: Parts) -> Option<(u32, u64)>
     Some((guest, number))
 }
 
+fn guest_and_text(alloc: Global, mut words: Parts) -> Result<(u32, Text), Refusal>
+    ensures { Reads result (two_fields guest_of text_of words.entry) }
+{
+    let word = words.next().ok_or(Refusal::Invalid)?;
+    let guest = parse_guest(word).ok_or(Refusal::Invalid)?;
+    let text = Text::read(alloc, only(words).ok_or(Refusal::Invalid)?)?;
+    Ok((guest, text))
+}
+
+fn parse_env_line(alloc: Global, mut words: Parts) -> Result<Line, Refusal>
+    ensures { Reads result (env_of words.entry) }
+{
+    let word = words.next().ok_or(Refusal::Invalid)?;
+    let guest = parse_guest(word).ok_or(Refusal::Invalid)?;
+    let key = Text::read(alloc, words.next().ok_or(Refusal::Invalid)?)?;
+    let value = Text::read(alloc, only(words).ok_or(Refusal::Invalid)?)?;
+    Ok(configure(guest, Setting::Env { key, value }))
+}
+
 fn parse_random_line(alloc: Global, mut words: Parts) -> Result<Line, Refusal>
     ensures { Reads result (source_set byte_string_of setting.Random words.entry) }
 {
@@ -343,7 +381,7 @@ fn open(words: Parts, stream: Standard, access: Access) -> Result<Call, Refusal>
 
 // a call on the entry of a number, or another one
 fn parse_entry_call(alloc: Global, name: &[u8], words: Parts) -> Result<Call, Refusal>
-    ensures { Reads result (meaning_by (entry_calls ++ (other_calls ++ (clock_calls ++ random_calls))) (name.now ∷ words.entry)) }
+    ensures { Reads result (meaning_by (entry_calls ++ (other_calls ++ (clock_calls ++ (random_calls ++ terminal_calls)))) (name.now ∷ words.entry)) }
 {
     if is(name, b"read") {
         let (number, size) = number_and_number(words)?;
@@ -415,7 +453,7 @@ fn number_and_bytes(alloc: Global, mut words: Parts) -> Result<(u64, ByteString)
 
 // a call on an entry of any kind, or on none
 fn parse_other_call(name: &[u8], words: Parts) -> Option<Call>
-    ensures { result ≡ meaning_by (other_calls ++ (clock_calls ++ random_calls)) (name.now ∷ words.entry) }
+    ensures { result ≡ meaning_by (other_calls ++ (clock_calls ++ (random_calls ++ terminal_calls))) (name.now ∷ words.entry) }
 {
     if is(name, b"drop") {
         let number = parse_number(only(words)?)?;
@@ -426,14 +464,20 @@ fn parse_other_call(name: &[u8], words: Parts) -> Option<Call>
     } else if is(name, b"exit-code") {
         let code = parse_exit_code(only(words)?)?;
         Some(Call::Own(OwnCall::ExitCode { code }))
+    } else if is(name, b"get-environment") {
+        own(words, OwnCall::Environment)
+    } else if is(name, b"get-arguments") {
+        own(words, OwnCall::Arguments)
+    } else if is(name, b"initial-cwd") {
+        own(words, OwnCall::InitialCwd)
     } else {
         parse_clock_call(name, words)
     }
 }
 
-// a call on the clocks, or on the random sources
+// a call on the clocks, on the random sources or on a terminal
 fn parse_clock_call(name: &[u8], words: Parts) -> Option<Call>
-    ensures { result ≡ meaning_by (clock_calls ++ random_calls) (name.now ∷ words.entry) }
+    ensures { result ≡ meaning_by (clock_calls ++ (random_calls ++ terminal_calls)) (name.now ∷ words.entry) }
 {
     if is(name, b"wall-now") {
         on_clocks(words, ClockCall::WallNow)
@@ -464,9 +508,9 @@ fn parse_clock_call(name: &[u8], words: Parts) -> Option<Call>
     }
 }
 
-// a call on the random sources
+// a call on the random sources or on a terminal
 fn parse_random_call(name: &[u8], words: Parts) -> Option<Call>
-    ensures { result ≡ meaning_by random_calls (name.now ∷ words.entry) }
+    ensures { result ≡ meaning_by (random_calls ++ terminal_calls) (name.now ∷ words.entry) }
 {
     if is(name, b"random-bytes") {
         let count = parse_number(only(words)?)?;
@@ -489,8 +533,34 @@ fn parse_random_call(name: &[u8], words: Parts) -> Option<Call>
     } else if is(name, b"insecure-seed") {
         on_random(words, RandomCall::InsecureSeed)
     } else {
+        parse_terminal_call(name, words)
+    }
+}
+
+fn parse_terminal_call(name: &[u8], words: Parts) -> Option<Call>
+    ensures { result ≡ meaning_by terminal_calls (name.now ∷ words.entry) }
+{
+    if is(name, b"terminal-stdin") {
+        terminal(words, Standard::Input)
+    } else if is(name, b"terminal-stdout") {
+        terminal(words, Standard::Output)
+    } else if is(name, b"terminal-stderr") {
+        terminal(words, Standard::Error)
+    } else {
         None
     }
+}
+
+fn terminal(words: Parts, stream: Standard) -> Option<Call>
+    ensures { result ≡ without_fields (call.Terminal stream) words.entry }
+{
+    is_done(words).then_some(Call::Terminal { stream })
+}
+
+fn own(words: Parts, it: OwnCall) -> Option<Call>
+    ensures { result ≡ without_fields (call.Own it) words.entry }
+{
+    is_done(words).then_some(Call::Own(it))
 }
 
 fn random_bytes(source: RandomSource, count: u64) -> Call
@@ -528,6 +598,8 @@ fn parse_input(alloc: Global, word: &[u8]) -> Result<Input, Refusal>
 {
     if is(word, b"shared") {
         Ok(Input::Shared)
+    } else if is(word, b"terminal") {
+        Ok(Input::Terminal)
     } else if is(word, b"empty") {
         Ok(Input::Empty)
     } else if is(word, b"closed") {
@@ -548,8 +620,19 @@ fn parse_output(alloc: Global, word: &[u8]) -> Result<Output, Refusal>
     } else if is(word, b"closed") {
         Ok(Output::Closed)
     } else {
-        let name = Name::new(alloc, word)?;
-        Ok(Output::Named(name))
+        parse_named_output(alloc, Parts::new(word, b'@'))
+    }
+}
+
+// a name, with `@tty` after it for a terminal, by the parts between the `@`
+fn parse_named_output(alloc: Global, mut parts: Parts) -> Result<Output, Refusal>
+    ensures { Reads result (with_first name_of named_output parts.entry) }
+{
+    let name = Name::new(alloc, parts.next().ok_or(Refusal::Invalid)?)?;
+    match parts.next() {
+        None => Ok(Output::Named(name)),
+        Some(mark) if is(mark, b"tty") && is_done(parts) => Ok(Output::Terminal(name)),
+        Some(_) => Err(Refusal::Invalid),
     }
 }
 

@@ -3,6 +3,7 @@
 ghost use Rattle.std.specs.Prelude.{◌≡◌, length, IfOk};
 
 mod calls;
+mod environment;
 mod generated;
 mod refusals;
 mod tasks;

@@ -32,7 +32,8 @@ fn a_bad_line_is_told_by_its_number(rt: HostRuntime) -> Result<(), Fail> {
         "guest 64 shared",
         "guest 0",
         "guest 0 other",
-        "guest 0 terminal",
+        "guest 0 terminals",
+        "guest 0 terminal@tty",
         "guest 0 P",
         "capture 1",
         "CAPTURE",
@@ -249,17 +250,28 @@ fn a_bad_place_to_write_to_is_told_by_its_number(rt: HostRuntime) -> Result<(), 
         "stderr 0 P",
         "stdout 0 Q",
         "stderr 0 Q",
-        "stdout 0 O@tty",
+        "stdout 0 F@tty",
+        "stderr 0 F@tty",
+        "stderr 0 P@tty",
+        "stderr 0 Q@tty",
+        "stdout 0 O@",
+        "stdout 0 O@ttys",
+        "stdout 0 O@tty@tty",
+        "stdout 0 @tty",
+        "stdout 0 sink@tty",
+        "stdout 0 o@tty",
         "stdout 0 shared",
         "stderr 0 terminal",
         "stdout 0",
         "stderr 0 empty empty",
         "stdout 0.1 empty",
         "guest 2 O",
+        "guest 2 O@tty",
     ];
-    let before = "pipe P -\nstdio O 5 -\nguest 0 P\nguest 1 P\nstdout 1 O\ncall 1 drop 0\n";
+    let before =
+        "pipe P -\nstdio O 5 -\noutfile F 5 -\nguest 0 P\nguest 1 P\nstdout 1 O@tty\ncall 1 drop 0\n";
     for line in bad_lines {
-        check_bad(&rt, rt.alloc(), before, line, 7)?;
+        check_bad(&rt, rt.alloc(), before, line, 8)?;
     }
     Ok(())
 }
