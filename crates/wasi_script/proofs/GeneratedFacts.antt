@@ -1,8 +1,8 @@
 -- One line more of a generated script, and one byte more of its input.
-use Rattle.std.proofs.Common.{◌≡◌, ℕ, suc, ◌+◌, ◌-◌, ◌%◌, ◌<◌, List, [], ◌∷◌, ◌++◌, map, refl, sym, ap, ◌∙◌, arith}
-use Rattle.std.proofs.lemmas.List.{append_assoc}
+use Rattle.std.proofs.Common.{◌≡◌, ℕ, zero, suc, ◌+◌, ◌-◌, ◌%◌, ◌<◌, ◌≤◌, drop, List, [], ◌∷◌, ◌++◌, map, refl, sym, ap, ◌∙◌, arith}
+use Rattle.std.proofs.lemmas.List.{append_assoc, drop_all}
 use Rattle.std.specs.List.{range_with_len}
-use Rattle.wasi_script.specs.Generated.{number_after, numbers_after, texts_of, text_of_kind, kind_of, size_of}
+use Rattle.wasi_script.specs.Generated.{number_after, numbers_after, texts_of, text_of_kind, step_of_kind, kind_of, size_of, opening_steps, steps_to_come}
 
 line_on : (done : List ℕ) (x rest : ℕ) → (done ++ texts_of (number_after x ∷ [])) ++ texts_of (numbers_after (number_after x) rest) ≡ done ++ texts_of (numbers_after x (suc rest))
 line_on done x rest =
@@ -22,3 +22,11 @@ next_byte done whole a next left rest byte next_is is byte_is e =
     ∙ byte_on done a rest
     ∙ ap (λ left. done ++ map (λ byte. byte % 256) (range_with_len a left)) (sym is)
     ∙ e
+
+past_opening : (opened : ℕ) → 5 ≤ opened → drop opened opening_steps ≡ []
+past_opening opened past = drop_all opened opening_steps (omega (arith, past))
+
+-- after the opening each step is that of the next number
+pub step_on : (opened x left : ℕ) → 5 ≤ opened → 0 < left → steps_to_come opened x left ≡ step_of_kind (kind_of (number_after x)) (size_of (number_after x)) ∷ steps_to_come opened (number_after x) (left - 1)
+step_on opened x zero past some = absurd (omega (arith, some))
+step_on opened x (suc left) past some = let less : suc left - 1 ≡ left = omega arith in rw (past_opening opened past, less) refl

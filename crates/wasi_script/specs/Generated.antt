@@ -1,5 +1,5 @@
 -- The script and the input that a number and a count of lines stand for.
-use Rattle.std.specs.Prelude.{ℕ, zero, suc, ◌+◌, ◌*◌, ◌/◌, ◌%◌, cond, nat_eq, List, [], ◌∷◌, ◌++◌, map, codes}
+use Rattle.std.specs.Prelude.{ℕ, zero, suc, ◌+◌, ◌*◌, ◌/◌, ◌%◌, cond, nat_eq, List, [], ◌∷◌, ◌++◌, drop, map, codes}
 use Rattle.std.specs.Fmt.{decimal}
 use Rattle.std.specs.List.{range_with_len}
 use Rattle.wasi_script.specs.declared.lines.Line.{Line}
@@ -71,6 +71,10 @@ generated_script number lines = opening ++ texts_of (numbers_of number lines)
 -- the steps of that script
 abbrev pub generated_steps : ℕ → ℕ → List Line
 generated_steps number lines = opening_steps ++ map (λ x. step_of_kind (kind_of x) (size_of x)) (numbers_of number lines)
+
+-- those that are left after some of the opening, where so many lines come after a number
+abbrev pub steps_to_come : ℕ → ℕ → ℕ → List Line
+steps_to_come opened x left = drop opened opening_steps ++ map (λ x. step_of_kind (kind_of x) (size_of x)) (numbers_after x left)
 
 -- eight bytes a line, counting up from the number
 abbrev pub generated_input : ℕ → ℕ → List ℕ

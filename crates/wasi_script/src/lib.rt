@@ -18,7 +18,7 @@ mod times;
 pub use bytes::ByteString;
 pub use declarations::Declared;
 pub use forms::Reading;
-pub use generated::{MOST_GENERATED_LINES, gen_script};
+pub use generated::{GeneratedSteps, MOST_GENERATED_LINES, gen_input, gen_script, gen_steps};
 pub use lines::{
     Access, Call, ClockCall, ClockSetting, EntryCall, ExitStatus, Input, InputDeclaration, Line,
     Output, OutputDeclaration, OwnCall, RandomCall, RandomSource, Setting, Standard, StreamTask,

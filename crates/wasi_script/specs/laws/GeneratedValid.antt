@@ -7,6 +7,7 @@ use Rattle.std.specs.List.{list_all}
 use Rattle.std.specs.Option.{option_map}
 use Rattle.std.specs.Str.Parse.{AllDigits}
 use Rattle.std.proofs.Math.Nat.{mod-lt}
+use Rattle.std.proofs.lemmas.List.{length-map}
 use Rattle.std.proofs.lemmas.Bool.Decides.{nat_tests}
 use Rattle.std.proofs.lemmas.Fmt.{decimal_is_IsNumeral, length-decimal-le}
 use Rattle.wasi_words.specs.Fields.{number_of, words_of, lines_of}
@@ -174,3 +175,13 @@ lines_length x (suc count) =
 
 pub is_short : (number lines : ℕ) → lines ≤ 100000 → length (generated_script number lines) ≤ 16777216
 is_short number lines few = omega (arith, lines_length (number % 65536) lines, few)
+
+numbers_length : (x count : ℕ) → length (numbers_after x count) ≡ count
+numbers_length x zero = refl
+numbers_length x (suc count) = ap suc (numbers_length (number_after x) count)
+
+-- five steps come before those of its lines
+pub is_counted : (number lines : ℕ) → length (generated_steps number lines) ≡ 5 + lines
+is_counted number lines =
+    let rest : length (map (λ x. step_of_kind (kind_of x) (size_of x)) (numbers_of number lines)) ≡ lines = length-map (numbers_of number lines) (λ x. step_of_kind (kind_of x) (size_of x)) ∙ numbers_length (number % 65536) lines in
+    omega (arith, rest)

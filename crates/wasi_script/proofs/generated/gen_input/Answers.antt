@@ -2,7 +2,7 @@ use Rattle.std.proofs.Common.{arith, ◌-◌, ◌+◌, ◌*◌, ◌∙◌}
 use Rattle.std.proofs.Math.Nat.{mod-add-mod}
 use Rattle.wasi_script.specs.Generated.{generated_input}
 use Rattle.wasi_script.proofs.GeneratedFacts.{next_byte}
-use Rattle.wasi_script.proofs.generated.generate_input.Goals as goal
+use Rattle.wasi_script.proofs.generated.gen_input.Goals as goal
 
 pub loop-at-preserved : goal.loop-at-preserved
 loop-at-preserved c =

@@ -1,7 +1,7 @@
 use Rattle.std.proofs.Common.{◌≡◌, ◌+◌, ◌-◌, ◌%◌, ◌++◌, map}
 use Rattle.std.specs.List.{range_with_len}
 use Rattle.wasi_script.specs.Generated.{generated_input}
-use Rattle.wasi_script.proofs.generated.generate_input.Given as goal
+use Rattle.wasi_script.proofs.generated.gen_input.Given as goal
 
 -- the bytes so far, and then those to come
 abbrev pub invariant-loop-at : goal.invariant-loop-at
