@@ -11,7 +11,7 @@ mod tests;
 mod write;
 
 pub use directory::{DirectoryStream, directory_stream};
-pub use laws::read_streams_show_files;
+pub use laws::{directory_streams_show_entries, read_streams_show_files};
 pub use open::FileStreams;
 pub use read::ReadStreamProducer;
 pub use write::WriteStreamConsumer;
