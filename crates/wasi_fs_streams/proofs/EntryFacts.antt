@@ -39,10 +39,11 @@ ended items s (Err code) e = absurd (no_error e.0 e.2 code e.3)
 
 pub show_entries : StreamsShowEntries
 show_entries entries most Completed items (Open t) p =
-    let all : entries ≡ items ++ t = come items entries t p.0 in
-    (omega (arith, ap length all, length-append items t, p.1),
-     sym (take_at items t most p.1) ∙ ap (take most) (sym all),
-     ap Open (sym (drop_at items t most p.1) ∙ ap (drop most) (sym all)))
+    let all : entries ≡ items ++ t = come items entries t p.0 in (
+      omega (arith, ap length all, length-append items t, p.1),
+      sym (take_at items t most p.1) ∙ ap (take most) (sym all),
+      ap Open (sym (drop_at items t most p.1) ∙ ap (drop most) (sym all)),
+    )
 show_entries entries most Completed items (Ended sent) p = absurd p
 show_entries entries most Dropped items (Open t) p = absurd p
 show_entries entries most Dropped items (Ended sent) p =
