@@ -2,3 +2,4 @@ pub mod Reads
 pub mod WriteStreams
 pub mod Opening
 pub mod Directories
+pub mod Promises

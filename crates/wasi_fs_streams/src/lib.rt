@@ -3,6 +3,7 @@
 
 mod directory;
 mod fetch;
+mod laws;
 mod open;
 mod read;
 #[cfg(test)]
@@ -10,6 +11,7 @@ mod tests;
 mod write;
 
 pub use directory::{DirectoryStream, directory_stream};
+pub use laws::{directory_streams_show_entries, read_streams_show_files};
 pub use open::FileStreams;
 pub use read::ReadStreamProducer;
 pub use write::WriteStreamConsumer;

@@ -41,36 +41,43 @@ fn gives(
     }
 }
 
-#[test]
-fn directories_of_many_sizes(rt: HostRuntime) -> Result<(), Fail> {
-    let alloc = rt.alloc();
-    let mut tree = tree_of(&rt, alloc, 0)?;
+// the polls of a directory with so many entries: each one's answer, first name and count
+fn streams(
+    rt: &impl Abort,
+    alloc: Global,
+    count: u64,
+    polls: &[(StreamResult, &str, usize)],
+) -> Result<(), Fail> {
+    let mut tree = tree_of(rt, alloc, count)?;
     let root = tree.root();
     let mut stream = directory_stream(&mut tree, &root)?;
-    gives(&rt, alloc, &mut stream, StreamResult::Dropped, "", 0);
-    assert!(&rt; stream.result() == Some(&Ok(())));
-    let mut tree = tree_of(&rt, alloc, 1)?;
-    let root = tree.root();
-    let mut stream = directory_stream(&mut tree, &root)?;
-    gives(&rt, alloc, &mut stream, StreamResult::Dropped, "999", 1);
-    let mut tree = tree_of(&rt, alloc, 32)?;
-    let root = tree.root();
-    let mut stream = directory_stream(&mut tree, &root)?;
-    gives(&rt, alloc, &mut stream, StreamResult::Completed, "968", 32);
-    gives(&rt, alloc, &mut stream, StreamResult::Dropped, "", 0);
-    let mut tree = tree_of(&rt, alloc, 33)?;
-    let root = tree.root();
-    let mut stream = directory_stream(&mut tree, &root)?;
-    gives(&rt, alloc, &mut stream, StreamResult::Completed, "967", 32);
-    gives(&rt, alloc, &mut stream, StreamResult::Dropped, "999", 1);
-    let mut tree = tree_of(&rt, alloc, 100)?;
-    let root = tree.root();
-    let mut stream = directory_stream(&mut tree, &root)?;
-    gives(&rt, alloc, &mut stream, StreamResult::Completed, "900", 32);
-    gives(&rt, alloc, &mut stream, StreamResult::Completed, "932", 32);
-    gives(&rt, alloc, &mut stream, StreamResult::Completed, "964", 32);
-    gives(&rt, alloc, &mut stream, StreamResult::Dropped, "996", 4);
+    for (answer, first, count) in polls {
+        gives(rt, alloc, &mut stream, *answer, first, *count);
+    }
     Ok(())
+}
+
+#[test]
+fn directories_of_few_entries(rt: HostRuntime) -> Result<(), Fail> {
+    let alloc = rt.alloc();
+    streams(&rt, alloc, 0, &[(StreamResult::Dropped, "", 0)])?;
+    streams(&rt, alloc, 1, &[(StreamResult::Dropped, "999", 1)])
+}
+
+#[test]
+fn directories_of_many_entries(rt: HostRuntime) -> Result<(), Fail> {
+    let alloc = rt.alloc();
+    let all = StreamResult::Completed;
+    let end = StreamResult::Dropped;
+    streams(&rt, alloc, 32, &[(all, "968", 32), (end, "", 0)])?;
+    streams(&rt, alloc, 33, &[(all, "967", 32), (end, "999", 1)])?;
+    let polls = [
+        (all, "900", 32),
+        (all, "932", 32),
+        (all, "964", 32),
+        (end, "996", 4),
+    ];
+    streams(&rt, alloc, 100, &polls)
 }
 
 #[test]
@@ -98,7 +105,7 @@ fn code_of<T: Drop>(outcome: FilesystemResult<T>) -> Option<ErrorCode> {
 #[test]
 fn streams_of_what_is_open(rt: HostRuntime) -> Result<(), Fail> {
     let alloc = rt.alloc();
-    let mut tree = tree_of(&rt, alloc, 1)?;
+    let tree = tree_of(&rt, alloc, 1)?;
     let root = Descriptor::Dir(tree.root());
     let is_directory = Some(ErrorCode::IsDirectory);
     assert_eq!(&rt; code_of(tree.read_via_stream(&root, 0)), is_directory);
@@ -106,6 +113,14 @@ fn streams_of_what_is_open(rt: HostRuntime) -> Result<(), Fail> {
     assert_eq!(&rt; code_of(tree.write_via_stream(&root, 0)), bad);
     assert_eq!(&rt; code_of(tree.append_via_stream(&root)), bad);
     assert!(&rt; tree.read_directory(&root).is_ok());
+    Ok(())
+}
+
+#[test]
+fn streams_of_a_file_that_is_open_to_read(rt: HostRuntime) -> Result<(), Fail> {
+    let alloc = rt.alloc();
+    let mut tree = tree_of(&rt, alloc, 1)?;
+    let root = Descriptor::Dir(tree.root());
     let opened = tree.open_at(
         &root,
         PathFlags::empty(),
