@@ -9,11 +9,11 @@ use wasi_fs::{Descriptor, Tree};
 use wasi_fs_types::{DescriptorFlags, ErrorCode, FilesystemResult, OpenFlags, PathFlags};
 use wasi_producers::StreamResult;
 
-// a tree whose root has so many empty files, made from the last name to the first
-fn tree_of(rt: &impl Abort, alloc: Global, count: u64) -> Result<Tree, Fail> {
+// a tree whose root has so many files, made from the last name to the first
+fn tree_of(rt: &impl Abort, alloc: Global, count: u8) -> Result<Tree, Fail> {
     let mut tree = Tree::new(alloc, 0, epoch())?;
     for number in 0..count {
-        let name = format!(in alloc; "{}", 999 - number)?;
+        let name = format!(in alloc; "{}", 999 - u64::from(number))?;
         let added = tree.add_file(name.as_str(), b"hello", epoch()).is_ok();
         assert!(rt; added);
     }
@@ -45,14 +45,14 @@ fn gives(
 fn streams(
     rt: &impl Abort,
     alloc: Global,
-    count: u64,
+    count: u8,
     polls: &[(StreamResult, &str, usize)],
 ) -> Result<(), Fail> {
     let mut tree = tree_of(rt, alloc, count)?;
     let root = tree.root();
     let mut stream = directory_stream(&mut tree, &root)?;
     for (answer, first, count) in polls {
-        gives(rt, alloc, &mut stream, *answer, first, *count);
+        gives(rt, alloc, &mut stream, *answer, *first, *count);
     }
     Ok(())
 }
