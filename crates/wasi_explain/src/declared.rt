@@ -11,13 +11,22 @@ pub enum Stream {
     Output,
 }
 
+/// What lines may do with a stream beside giving it to guests.
+#[derive(Clone, Copy, Debug, PartialEq, Eq, Drop)]
+enum Kind {
+    Plain,
+    /// A task reads it ahead, or writes what it buffers.
+    WithTask,
+    /// A standard output of the host's process, which may be a terminal.
+    Stdio,
+}
+
 /// A stream by its name.
 #[derive(Drop)]
 struct Row<'a> {
     name: &'a [u8],
     stream: Stream,
-    /// Whether a task reads it ahead, or writes what it buffers.
-    has_task: bool,
+    kind: Kind,
 }
 
 /// What lines say of a guest.
@@ -62,10 +71,11 @@ impl<'a> Declared<'a> {
 
     fn add(&mut self, field: Field, word: &'a [u8]) -> Result<(), OutOfMemory> {
         match field {
-            Field::NewInput => self.add_stream(word, Stream::Input, false)?,
-            Field::NewAsyncIn => self.add_stream(word, Stream::Input, true)?,
-            Field::NewOutput => self.add_stream(word, Stream::Output, false)?,
-            Field::NewBuffered => self.add_stream(word, Stream::Output, true)?,
+            Field::NewInput => self.add_stream(word, Stream::Input, Kind::Plain)?,
+            Field::NewAsyncIn => self.add_stream(word, Stream::Input, Kind::WithTask)?,
+            Field::NewOutput => self.add_stream(word, Stream::Output, Kind::Plain)?,
+            Field::NewStdio => self.add_stream(word, Stream::Output, Kind::Stdio)?,
+            Field::NewBuffered => self.add_stream(word, Stream::Output, Kind::WithTask)?,
             Field::NewGuest => self.declare_guest(word),
             Field::Caller => self.add_caller(word),
             _ => {}
@@ -77,14 +87,9 @@ impl<'a> Declared<'a> {
         &mut self,
         name: &'a [u8],
         stream: Stream,
-        has_task: bool,
+        kind: Kind,
     ) -> Result<(), OutOfMemory> {
-        let row = Row {
-            name,
-            stream,
-            has_task,
-        };
-        self.streams.push(row)?;
+        self.streams.push(Row { name, stream, kind })?;
         Ok(())
     }
 
@@ -123,7 +128,14 @@ impl<'a> Declared<'a> {
     pub fn has_task(&self, name: &[u8]) -> bool {
         self.streams
             .iter()
-            .any(|row| row.has_task && row.name == name)
+            .any(|row| row.kind == Kind::WithTask && row.name == name)
+    }
+
+    /// Whether the stream of a name is a standard output of the host's process.
+    pub fn is_stdio(&self, name: &[u8]) -> bool {
+        self.streams
+            .iter()
+            .any(|row| row.kind == Kind::Stdio && row.name == name)
     }
 
     /// Whether there are as many streams as a script may have.

@@ -1,6 +1,7 @@
 use crate::declared::{Declared, Stream};
 use crate::plans::{check_read_plan, check_write_plan};
 use crate::reason::Reason;
+use crate::texts::are_utf8;
 
 /// What a word of a line has to be.
 #[derive(Clone, Copy, Debug, PartialEq, Eq, Drop)]
@@ -11,6 +12,8 @@ pub enum Field {
     NewAsyncIn,
     /// The name of the output that the line declares.
     NewOutput,
+    /// The same, of a standard output of the host's process.
+    NewStdio,
     /// The same, of an output that buffers for a task.
     NewBuffered,
     /// The name of a declared stream whose task has its turn.
@@ -28,6 +31,8 @@ pub enum Field {
     Bytes,
     /// At most 1048576 bytes.
     DeclaredBytes,
+    /// Bytes that are UTF-8, without the form `K*HH`.
+    Text,
     ReadPlan,
     WritePlan,
     Number,
@@ -50,7 +55,9 @@ impl Field {
     pub fn check(self, word: &[u8], declared: &Declared) -> Result<(), Reason> {
         match self {
             Field::NewInput | Field::NewAsyncIn => check_new_name(word, declared),
-            Field::NewOutput | Field::NewBuffered => check_new_name(word, declared),
+            Field::NewOutput | Field::NewStdio | Field::NewBuffered => {
+                check_new_name(word, declared)
+            }
             Field::NewGuest => check_new_guest(word, declared),
             Field::Configured => check_configured(word, declared),
             Field::Caller => check_caller(word, declared),
@@ -59,6 +66,7 @@ impl Field {
             Field::Task(stream) => check_task(stream, word, declared),
             Field::Bytes => check_bytes(word),
             Field::DeclaredBytes => check_declared_bytes(word),
+            Field::Text => check_text(word),
             Field::ReadPlan => check_read_plan(word),
             Field::WritePlan => check_write_plan(word),
             Field::Number => check_number(word, 0, u64::MAX),
@@ -165,7 +173,7 @@ fn is_name(word: &[u8]) -> bool {
 
 fn check_input(word: &[u8], declared: &Declared) -> Result<(), Reason> {
     match word {
-        b"shared" | b"empty" | b"closed" => Ok(()),
+        b"shared" | b"terminal" | b"empty" | b"closed" => Ok(()),
         _ => check_stream(Stream::Input, word, declared),
     }
 }
@@ -173,6 +181,7 @@ fn check_input(word: &[u8], declared: &Declared) -> Result<(), Reason> {
 fn check_output(word: &[u8], declared: &Declared) -> Result<(), Reason> {
     match word {
         b"empty" | b"sink" | b"closed" => Ok(()),
+        [name @ .., b'@', b't', b't', b'y'] => check_terminal(name, declared),
         _ => check_stream(Stream::Output, word, declared),
     }
 }
@@ -186,6 +195,15 @@ fn check_stream(wanted: Stream, name: &[u8], declared: &Declared) -> Result<(), 
         (Stream::Output, None) if is_name(name) => Err(Reason::UnknownOutput),
         (Stream::Input, None) => Err(Reason::NotAnInput),
         (Stream::Output, None) => Err(Reason::NotAnOutput),
+    }
+}
+
+fn check_terminal(name: &[u8], declared: &Declared) -> Result<(), Reason> {
+    check_stream(Stream::Output, name, declared)?;
+    if declared.is_stdio(name) {
+        Ok(())
+    } else {
+        Err(Reason::NoTerminal)
     }
 }
 
@@ -270,6 +288,19 @@ fn check_digits(digits: &[u8]) -> Result<(), Reason> {
         Err(Reason::OddDigits)
     } else {
         Ok(())
+    }
+}
+
+// `-`, or digits in pairs, of bytes that are UTF-8
+fn check_text(word: &[u8]) -> Result<(), Reason> {
+    if word == b"-".as_slice() {
+        return Ok(());
+    }
+    check_digits(word)?;
+    if are_utf8(word) {
+        Ok(())
+    } else {
+        Err(Reason::NotUtf8)
     }
 }
 

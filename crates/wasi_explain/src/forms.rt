@@ -12,7 +12,8 @@ pub fn line_fields(word: &[u8]) -> Option<&'static [Field]> {
         b"infile" => Some(&[Field::NewInput, Field::DeclaredBytes, Field::ReadPlan]),
         b"asyncin" => Some(&[Field::NewAsyncIn, Field::DeclaredBytes, Field::ReadPlan]),
         b"outpipe" => Some(&[Field::NewOutput, Field::Room]),
-        b"outfile" | b"stdio" => Some(&[Field::NewOutput, Field::Room, Field::WritePlan]),
+        b"outfile" => Some(&[Field::NewOutput, Field::Room, Field::WritePlan]),
+        b"stdio" => Some(&[Field::NewStdio, Field::Room, Field::WritePlan]),
         b"buffered" => Some(&[
             Field::NewBuffered,
             Field::Room,
@@ -22,6 +23,8 @@ pub fn line_fields(word: &[u8]) -> Option<&'static [Field]> {
         b"guest" => Some(&[Field::NewGuest, Field::Input]),
         b"stdout" | b"stderr" => Some(&[Field::Configured, Field::Output]),
         b"capacity" => Some(&[Field::Configured, Field::Capacity]),
+        b"env" => Some(&[Field::Configured, Field::Text, Field::Text]),
+        b"arg" | b"cwd" => Some(&[Field::Configured, Field::Text]),
         b"random" => Some(&[Field::Configured, Field::RandomSource, Field::RepeatedBytes]),
         b"seeded" => Some(&[Field::Configured, Field::RandomSource, Field::Number]),
         b"seed" => Some(&[Field::Configured, Field::Seed]),
@@ -37,6 +40,8 @@ pub fn call_fields(name: &[u8]) -> Option<&'static [Field]> {
     match name {
         b"get-stdin" | b"get-stdout" | b"get-stderr" => Some(&[]),
         b"async-stdin" | b"async-stdout" | b"async-stderr" => Some(&[]),
+        b"terminal-stdin" | b"terminal-stdout" | b"terminal-stderr" => Some(&[]),
+        b"get-environment" | b"get-arguments" | b"initial-cwd" => Some(&[]),
         b"read" | b"skip" | b"poll-read" => Some(&[Field::Number, Field::Number]),
         b"write" | b"poll-write" => Some(&[Field::Number, Field::Bytes]),
         b"check-write" | b"flush" | b"poll-flush" => Some(&[Field::Number]),

@@ -9,6 +9,7 @@ mod forms;
 mod lines;
 mod plans;
 mod reason;
+mod texts;
 mod words;
 
 pub use bad_line::{BadLine, explain};

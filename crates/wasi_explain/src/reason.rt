@@ -45,6 +45,8 @@ pub enum Reason {
     OddDigits,
     #[error("bad hexadecimal: not the two digits of one byte")]
     NotOneByte,
+    #[error("text that is not UTF-8")]
+    NotUtf8,
     #[error("more than 1048576 bytes")]
     TooManyBytes,
     #[error("bad plan: no such item")]
@@ -57,9 +59,9 @@ pub enum Reason {
     TooManyItems,
     #[error("neither ok nor err")]
     BadStatus,
-    #[error("not an input: not shared, empty, closed or a name")]
+    #[error("not an input: not shared, terminal, empty, closed or a name")]
     NotAnInput,
-    #[error("not an output: not empty, sink, closed or a name")]
+    #[error("not an output: not empty, sink, closed or a name, with @tty where it is a terminal")]
     NotAnOutput,
     #[error("an output's name in place of an input's")]
     OutputAsInput,
@@ -73,6 +75,8 @@ pub enum Reason {
     UnknownOutput,
     #[error("stream without a task")]
     NoTask,
+    #[error("terminal that is no stdio")]
+    NoTerminal,
     #[error("guest declared twice")]
     GuestTwice,
     #[error("name declared twice")]

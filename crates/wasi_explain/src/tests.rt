@@ -247,19 +247,25 @@ fn plans(rt: HostRuntime) -> Result<(), Fail> {
 fn inputs_and_outputs(rt: HostRuntime) -> Result<(), Fail> {
     let bad_lines = [
         ("guest 2 other", 9, Reason::NotAnInput),
-        ("guest 2 terminal", 9, Reason::NotAnInput),
+        ("guest 2 terminals", 9, Reason::NotAnInput),
         ("guest 2 sink", 9, Reason::NotAnInput),
         ("guest 2 N", 9, Reason::UnknownInput),
         ("guest 2 O", 9, Reason::OutputAsInput),
         ("stdout 0 shared", 10, Reason::NotAnOutput),
-        ("stderr 0 O@tty", 10, Reason::NotAnOutput),
+        ("guest 2 O@tty", 9, Reason::NotAnInput),
+        ("stderr 0 F@tty", 10, Reason::NoTerminal),
+        ("stderr 0 P@tty", 10, Reason::InputAsOutput),
+        ("stderr 0 N@tty", 10, Reason::UnknownOutput),
+        ("stderr 0 O@tty@tty", 10, Reason::NotAnOutput),
+        ("stderr 0 O@", 10, Reason::NotAnOutput),
+        ("stderr 0 sink@tty", 10, Reason::NotAnOutput),
         ("stdout 0 N", 10, Reason::UnknownOutput),
         ("stderr 0 P", 10, Reason::InputAsOutput),
     ];
     check_lines(
         &rt,
         rt.alloc(),
-        "pipe P -\nstdio O 5 -\nguest 0 P\n",
+        "pipe P -\nstdio O 5 -\noutfile F 5 -\nguest 0 P\nguest 1 terminal\nstdout 1 O@tty\n",
         &bad_lines,
     )
 }
@@ -432,4 +438,36 @@ fn random_sources(rt: HostRuntime) -> Result<(), Fail> {
     let before =
         "guest 0 empty\nguest 2 empty\nseed 0 340282366920938463463374607431768211455\nrandom 0 secure 4*00\ncall 2 insecure-seed\n";
     check_lines(&rt, rt.alloc(), before, &bad_lines)
+}
+
+#[test]
+fn environments(rt: HostRuntime) -> Result<(), Fail> {
+    let bad_lines = [
+        ("env 0 4b", 9, Reason::MissingWord),
+        ("env 0 4b 76 77", 13, Reason::ExtraWord),
+        ("env 0 4 76", 7, Reason::OddDigits),
+        ("env 0 4b 7g", 10, Reason::BadDigit),
+        ("env 0 4b 2*76", 10, Reason::BadDigit),
+        ("env 0 4b ff", 10, Reason::NotUtf8),
+        ("env 0 c3 76", 7, Reason::NotUtf8),
+        ("env 1 4b 76", 5, Reason::AfterFirstCall),
+        ("env 2 4b 76", 5, Reason::UnknownGuest),
+        ("arg 0", 6, Reason::MissingWord),
+        ("arg 0 eda080", 7, Reason::NotUtf8),
+        ("arg 0 c080", 7, Reason::NotUtf8),
+        ("arg 0 e08080", 7, Reason::NotUtf8),
+        ("arg 0 f08fbfbf", 7, Reason::NotUtf8),
+        ("arg 0 f4908080", 7, Reason::NotUtf8),
+        ("arg 0 c328", 7, Reason::NotUtf8),
+        ("cwd 0 2f 2f", 10, Reason::ExtraWord),
+        ("cwd 1 2f", 5, Reason::AfterFirstCall),
+        ("call 0 get-environment 0", 24, Reason::ExtraWord),
+        ("call 0 initial-cwd -", 20, Reason::ExtraWord),
+        ("call 0 terminal-stdout 0", 24, Reason::ExtraWord),
+        ("call 0 exit-code x", 18, Reason::NotANumber),
+    ];
+    let guests = "guest 0 empty\nguest 1 terminal\ncall 1 get-arguments\n";
+    let texts = "env 0 4B C3a9\narg 0 -\narg 0 e0a080ed9fbfefbfbf\ncwd 0 f0908080f48fbfbf7f\n";
+    let before = format!(in rt.alloc(); "{guests}{texts}")?;
+    check_lines(&rt, rt.alloc(), &before, &bad_lines)
 }

@@ -67,32 +67,53 @@ fn check_cwd(rt: &impl Abort, line: &Line, want: &str) {
 fn a_terminal_is_the_shared_input_or_a_standard_output(rt: HostRuntime) -> Result<(), Fail> {
     let text = "stdio S 5 -\nguest 3 terminal\nstdout 3 S@tty\nstderr 3 S@tty\nstdout 3 S";
     let script = parsed(&rt, rt.alloc(), text)?;
-    match script.steps() {
-        [
-            _,
-            Line::Guest {
-                guest: 3,
-                input: Input::Terminal,
-            },
-            Line::Configure {
-                guest: 3,
-                setting: Setting::Stdout(Output::Terminal(first)),
-            },
-            Line::Configure {
-                guest: 3,
-                setting: Setting::Stderr(Output::Terminal(second)),
-            },
-            Line::Configure {
-                guest: 3,
-                setting: Setting::Stdout(Output::Named(third)),
-            },
-        ] => {
-            check_name(&rt, first, b"S");
-            check_name(&rt, second, b"S");
-            check_name(&rt, third, b"S");
-            Ok(())
-        }
-        _ => panic!(rt; "terminals"),
+    let [_, first, second, third, fourth] = script.steps() else {
+        panic!(rt; "five steps");
+    };
+    check_terminal_input(&rt, first);
+    check_terminal(&rt, its_stdout(&rt, second));
+    check_terminal(&rt, its_stderr(&rt, third));
+    match its_stdout(&rt, fourth) {
+        Output::Named(name) => check_name(&rt, name, b"S"),
+        _ => panic!(rt; "a terminal"),
+    }
+    Ok(())
+}
+
+fn check_terminal_input(rt: &impl Abort, line: &Line) {
+    match line {
+        Line::Guest {
+            guest: 3,
+            input: Input::Terminal,
+        } => {}
+        _ => panic!(rt; "no terminal"),
+    }
+}
+
+fn its_stdout<'a>(rt: &impl Abort, line: &'a Line) -> &'a Output {
+    match line {
+        Line::Configure {
+            guest: 3,
+            setting: Setting::Stdout(output),
+        } => output,
+        _ => panic!(rt; "no standard output"),
+    }
+}
+
+fn its_stderr<'a>(rt: &impl Abort, line: &'a Line) -> &'a Output {
+    match line {
+        Line::Configure {
+            guest: 3,
+            setting: Setting::Stderr(output),
+        } => output,
+        _ => panic!(rt; "no standard error"),
+    }
+}
+
+fn check_terminal(rt: &impl Abort, output: &Output) {
+    match output {
+        Output::Terminal(name) => check_name(rt, name, b"S"),
+        _ => panic!(rt; "no terminal"),
     }
 }
 
