@@ -1,3 +1,4 @@
+pub mod ContextFacts
 pub mod GuestFacts
 pub mod LiveFacts
 pub mod LoopFacts

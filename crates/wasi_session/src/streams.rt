@@ -7,7 +7,7 @@ ghost use Rattle.wasi_host.specs.declared.stream.InStream.TheVariants as in_stre
 ghost use Rattle.wasi_host.specs.declared.stream.OutStream.TheVariants as out_stream;
 ghost use Rattle.wasi_host.specs.Calls.{called, sent};
 ghost use Rattle.wasi_host.specs.Tasks.{input_turned, output_turned};
-ghost use Rattle.wasi_host.specs.Host.{the_rules, names_in, is_reader, is_writer, reads_ahead_in, writes_behind_in, taken_out, put_back, task_told, after_task, leave_input, leave_output};
+ghost use Rattle.wasi_host.specs.Host.{the_rules, names_in, is_reader, is_writer, is_stdio, has_stdio_in, reads_ahead_in, writes_behind_in, taken_out, put_back, task_told, after_task, leave_input, leave_output};
 ghost use Rattle.wasi_host.specs.InStreams.{input_without};
 ghost use Rattle.wasi_host.specs.OutStreams.{output_without};
 ghost use Rattle.wasi_host.specs.Transcript.{outputs_of};
@@ -97,6 +97,16 @@ impl Streams {
         }
     }
 
+    /// Whether there is an output of this name that is a standard output of the host's process.
+    pub fn has_stdio(&self, name: &[u8]) -> bool
+        ensures { result ≡ has_stdio_in self.now name.now }
+    {
+        match self.outputs.get(name) {
+            Some(output) => is_stdio(output),
+            None => false,
+        }
+    }
+
     /// An input of a new name.
     pub fn add_input(
         &mut self,
@@ -129,23 +139,26 @@ impl Streams {
         Ok(())
     }
 
-    /// A call on the input that a guest reads: what it asks to be done.
+    /// A call on the input that a context reads: what it asks to be done.
     pub fn call(
         &mut self,
         alloc: Global,
         from: &Input,
         call: &EntryCall,
+        context: Option<u32>,
         at: Owner,
         entry: StreamEntry,
     ) -> Result<Deed, OutOfMemory>
-        ensures deed { IfOk result (λ deed. deed ≡ (input_doing call.now at entry from.now self.old).deed) }
-        ensures left { OnOk result (self.new ≡ (input_doing call.now at entry from.now self.old).left) }
+        ensures deed { IfOk result (λ deed. deed ≡ (input_doing call.now context at entry from.now self.old).deed) }
+        ensures left { OnOk result (self.new ≡ (input_doing call.now context at entry from.now self.old).left) }
         ensures made { IfOk result (λ deed. IsMake deed → self.new ≡ self.old) }
         ensures err { OnErr result (self.new ≡ self.old) }
     {
         match from {
-            Input::Named(name) => self.call_named(alloc, name.as_bytes(), call, at, entry),
-            Input::Shared | Input::Empty | Input::Closed => called_closed(alloc, call, at, entry),
+            Input::Named(name) => self.call_named(alloc, name.as_bytes(), call, context, at, entry),
+            Input::Shared | Input::Terminal | Input::Empty | Input::Closed => {
+                called_closed(alloc, call, context, at, entry)
+            }
         }
     }
 
@@ -155,41 +168,45 @@ impl Streams {
         alloc: Global,
         name: &[u8],
         call: &EntryCall,
+        context: Option<u32>,
         at: Owner,
         entry: StreamEntry,
     ) -> Result<Deed, OutOfMemory>
-        ensures deed { IfOk result (λ deed. deed ≡ (called call.now at entry (taken_out in_stream.Closed name.now self.old.inputs)).deed) }
-        ensures left { OnOk result (self.new ≡ record self.old { inputs = put_back name.now (called call.now at entry (taken_out in_stream.Closed name.now self.old.inputs)).left self.old.inputs }) }
+        ensures deed { IfOk result (λ deed. deed ≡ (called call.now context at entry (taken_out in_stream.Closed name.now self.old.inputs)).deed) }
+        ensures left { OnOk result (self.new ≡ record self.old { inputs = put_back name.now (called call.now context at entry (taken_out in_stream.Closed name.now self.old.inputs)).left self.old.inputs }) }
         ensures made { IfOk result (λ deed. IsMake deed → self.new ≡ self.old) }
         ensures err { OnErr result (self.new ≡ self.old) }
     {
         match self.inputs.get_mut(name) {
-            Some(stream) => called(alloc, stream, call, at, entry),
-            None => called_closed(alloc, call, at, entry),
+            Some(stream) => called(alloc, stream, call, context, at, entry),
+            None => called_closed(alloc, call, context, at, entry),
         }
     }
 
-    /// A call on an output of a guest: what it asks to be done.
+    /// A call on an output of a context: what it asks to be done.
     pub fn send(
         &mut self,
         alloc: Global,
         to: &Output,
         call: &EntryCall,
+        context: Option<u32>,
         which: Standard,
         at: Owner,
         entry: StreamEntry,
     ) -> Result<Deed, OutOfMemory>
-        ensures deed { IfOk result (λ deed. deed ≡ (output_doing call.now which at entry to.now self.old).deed) }
-        ensures left { OnOk result (self.new ≡ (output_doing call.now which at entry to.now self.old).left) }
+        ensures deed { IfOk result (λ deed. deed ≡ (output_doing call.now context which at entry to.now self.old).deed) }
+        ensures left { OnOk result (self.new ≡ (output_doing call.now context which at entry to.now self.old).left) }
         ensures made { IfOk result (λ deed. IsMake deed → self.new ≡ self.old) }
         ensures err { OnErr result (self.new ≡ self.old) }
     {
         match to {
-            Output::Named(name) => self.send_named(alloc, name.as_bytes(), call, which, at, entry),
-            Output::Closed => sent_closed(alloc, call, which, at, entry),
+            Output::Named(name) | Output::Terminal(name) => {
+                self.send_named(alloc, name.as_bytes(), call, context, which, at, entry)
+            }
+            Output::Closed => sent_closed(alloc, call, context, which, at, entry),
             Output::Empty | Output::Sink => {
                 let mut sink = OutStream::Sink;
-                sent(alloc, &mut sink, call, which, at, entry)
+                sent(alloc, &mut sink, call, context, which, at, entry)
             }
         }
     }
@@ -200,28 +217,29 @@ impl Streams {
         alloc: Global,
         name: &[u8],
         call: &EntryCall,
+        context: Option<u32>,
         which: Standard,
         at: Owner,
         entry: StreamEntry,
     ) -> Result<Deed, OutOfMemory>
-        ensures deed { IfOk result (λ deed. deed ≡ (sent call.now which at entry (taken_out out_stream.Closed name.now self.old.outputs)).deed) }
-        ensures left { OnOk result (self.new ≡ record self.old { outputs = put_back name.now (sent call.now which at entry (taken_out out_stream.Closed name.now self.old.outputs)).left self.old.outputs }) }
+        ensures deed { IfOk result (λ deed. deed ≡ (sent call.now context which at entry (taken_out out_stream.Closed name.now self.old.outputs)).deed) }
+        ensures left { OnOk result (self.new ≡ record self.old { outputs = put_back name.now (sent call.now context which at entry (taken_out out_stream.Closed name.now self.old.outputs)).left self.old.outputs }) }
         ensures made { IfOk result (λ deed. IsMake deed → self.new ≡ self.old) }
         ensures err { OnErr result (self.new ≡ self.old) }
     {
         match self.outputs.get_mut(name) {
-            Some(stream) => sent(alloc, stream, call, which, at, entry),
-            None => sent_closed(alloc, call, which, at, entry),
+            Some(stream) => sent(alloc, stream, call, context, which, at, entry),
+            None => sent_closed(alloc, call, context, which, at, entry),
         }
     }
 
-    /// Who leaves has no turn on an input of a guest any more, and waits for none.
+    /// Who leaves has no turn on an input of a context any more, and waits for none.
     pub fn leave_input(&mut self, from: &Input, who: Leaver)
         ensures { self.new ≡ leave_input who from.now self.old }
     {
         match from {
             Input::Named(name) => self.leave_input_named(name.as_bytes(), who),
-            Input::Shared | Input::Empty | Input::Closed => {}
+            Input::Shared | Input::Terminal | Input::Empty | Input::Closed => {}
         }
     }
 
@@ -239,7 +257,9 @@ impl Streams {
         ensures { self.new ≡ leave_output who to.now self.old }
     {
         match to {
-            Output::Named(name) => self.leave_output_named(name.as_bytes(), who),
+            Output::Named(name) | Output::Terminal(name) => {
+                self.leave_output_named(name.as_bytes(), who)
+            }
             Output::Empty | Output::Sink | Output::Closed => {}
         }
     }
@@ -308,4 +328,11 @@ fn is_writer(output: &OutStream) -> bool
     ensures { result ≡ is_writer (Some output.now) }
 {
     matches!(output, OutStream::Buffered(_))
+}
+
+// .. and one a standard output of the host's process
+fn is_stdio(output: &OutStream) -> bool
+    ensures { result ≡ is_stdio (Some output.now) }
+{
+    matches!(output, OutStream::Stdio(_))
 }
