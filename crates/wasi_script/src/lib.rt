@@ -2,6 +2,7 @@
 #![tactic(auto)]
 
 mod bytes;
+mod contexts;
 mod declarations;
 mod forms;
 mod generated;
@@ -20,8 +21,8 @@ pub use declarations::Declared;
 pub use forms::Reading;
 pub use generated::{MOST_GENERATED_LINES, gen_script};
 pub use lines::{
-    Access, Call, ClockCall, ClockSetting, EntryCall, ExitStatus, Input, InputDeclaration, Line,
-    Output, OutputDeclaration, OwnCall, RandomCall, RandomSource, Setting, Standard, StreamTask,
+    Access, Call, ClockCall, ClockSetting, Context, EntryCall, ExitStatus, Input, InputDeclaration,
+    Line, Output, OutputDeclaration, OwnCall, RandomCall, RandomSource, Setting, Standard, StreamTask,
     WorkerTurn,
 };
 pub use name::Name;

@@ -1,5 +1,9 @@
 ghost use Rattle.std.specs.Prelude.{◌≡◌, IfOk, string_bytes};
+ghost use Rattle.wasi_script.specs.Bytes.{text_of};
+ghost use Rattle.wasi_script.specs.Reads.{Reads};
 
+use crate::bytes::read_plain;
+use crate::refusal::Refusal;
 use std::alloc::Global;
 use std::marker::Model;
 use wasi_base::OutOfMemory;
@@ -29,6 +33,16 @@ impl Text {
         ensures { result.now ≡ self.now }
     {
         self.kept.as_str()
+    }
+
+    /// The text of a field: `-` for none, or hexadecimal digits. Refused where it is not UTF-8.
+    pub(crate) fn read(alloc: Global, text: &[u8]) -> Result<Text, Refusal>
+        ensures { Reads result (text_of text.now) }
+    {
+        match String::from_utf8(read_plain(alloc, text)?) {
+            Ok(kept) => Ok(Text { kept }),
+            Err(_) => Err(Refusal::Invalid),
+        }
     }
 
     /// The same text.
