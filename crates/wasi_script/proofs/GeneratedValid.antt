@@ -70,7 +70,7 @@ its_number size small =
 
 -- a call on a number of a guest, by the size that its last word is
 abbrev asked_by : ℕ → ℕ → (ℕ → EntryCall) → Option ℕ → Option Line
-asked_by guest number make it = option_map (line.Call guest) (option_map (λ (both : ℕ × ℕ). call.On both.0 (make both.1)) (option_map (λ size. (number, size)) it))
+asked_by guest number make it = option_map (line.Call (main_context guest)) (option_map (λ (both : ℕ × ℕ). call.On both.0 (make both.1)) (option_map (λ size. (number, size)) it))
 
 asks : (words : List (List ℕ) → List (List ℕ)) (outcome : Option ℕ → Option Line) (size : ℕ) → size < 64 → ((last : List ℕ) → line_of (words (last ∷ [])) ≡ outcome (number_of last)) → step_or_invalid (line_of (words (words_of (decimal size)))) ≡ step_or_invalid (outcome (Some size))
 asks words outcome size small is = ap step_or_invalid (ap (λ last. line_of (words last)) (one_word (decimal size) (none_in_digits 32 (decimal size) (omega arith) (digits_of size small))) ∙ is (decimal size) ∙ ap outcome (its_number size small))
