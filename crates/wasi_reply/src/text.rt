@@ -59,12 +59,7 @@ fn push_hex(text: &mut Vec<u8>, word: &[u8], bytes: &[u8]) -> Result<(), OutOfMe
 {
     text.extend_from_slice(word)?;
     text.push(b' ')?;
-    if bytes.is_empty() {
-        text.push(b'-')?;
-    } else {
-        push_digits(text, bytes)?;
-    }
-    Ok(())
+    push_bytes(text, bytes)
 }
 
 // lower-case digits, `-` for no bytes

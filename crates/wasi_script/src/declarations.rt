@@ -275,14 +275,19 @@ impl Declarations {
                 self.inputs.add(alloc, name.as_bytes(), input_flags(input))?;
             }
             Line::Output { name, output } => {
-                self.outputs.add(alloc, name.as_bytes(), output_flags(output))?;
+                self.outputs
+                    .add(alloc, name.as_bytes(), output_flags(output))?;
             }
             Line::Guest { guest, input: _ } => self.declared[*guest as usize] = true,
             Line::Context { guest, id, .. } => {
                 self.contexts[*guest as usize * 16 + *id as usize] = true;
             }
             Line::Call { context, call: _ } => self.called[context.guest as usize] = true,
-            Line::Capacity { .. } | Line::Configure { .. } | Line::Worker(_) | Line::Turn(_) | Line::Clock(_) => {}
+            Line::Capacity { .. }
+            | Line::Configure { .. }
+            | Line::Worker(_)
+            | Line::Turn(_)
+            | Line::Clock(_) => {}
         }
         Ok(())
     }

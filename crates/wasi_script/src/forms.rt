@@ -14,8 +14,8 @@ use crate::bytes::ByteString;
 use crate::contexts::{parse_context, parse_named};
 use crate::lines::{
     Access, Call, ClockCall, ClockSetting, Context, EntryCall, ExitStatus, Input, InputDeclaration,
-    Line, Output, OutputDeclaration, OwnCall, RandomCall, RandomSource, Setting, Standard, StreamTask,
-    WorkerTurn,
+    Line, Output, OutputDeclaration, OwnCall, RandomCall, RandomSource, Setting, Standard,
+    StreamTask, WorkerTurn,
 };
 use crate::name::Name;
 use crate::numbers::{parse_budget, parse_capacity, parse_exit_code, parse_guest, parse_room};

@@ -22,8 +22,8 @@ pub use forms::Reading;
 pub use generated::{MOST_GENERATED_LINES, gen_script};
 pub use lines::{
     Access, Call, ClockCall, ClockSetting, Context, EntryCall, ExitStatus, Input, InputDeclaration,
-    Line, Output, OutputDeclaration, OwnCall, RandomCall, RandomSource, Setting, Standard, StreamTask,
-    WorkerTurn,
+    Line, Output, OutputDeclaration, OwnCall, RandomCall, RandomSource, Setting, Standard,
+    StreamTask, WorkerTurn,
 };
 pub use name::Name;
 pub use parse::{Script, ScriptError, parse_script, read_after};
