@@ -4,4 +4,5 @@ pub mod Lines
 pub mod Outputs
 pub mod Piece
 pub mod Reply
+pub mod Texts
 pub mod laws

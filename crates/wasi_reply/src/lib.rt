@@ -7,6 +7,7 @@ mod reply;
 #[cfg(test)]
 mod tests;
 mod text;
+mod texts;
 
 pub use laws::{
     lines_fix_outputs, lines_fix_replies, replies_are_lines, replies_are_one_line,
@@ -15,3 +16,4 @@ pub use laws::{
 pub use piece::Piece;
 pub use reply::{Reply, Told, Worked};
 pub use text::{push_line, push_output};
+pub use texts::{Text, TextPairs, Texts};

@@ -1,7 +1,7 @@
 ghost use Rattle.std.specs.Prelude.{◌≡◌};
 ghost use Rattle.wasi_reply.specs.Reply.{told_ends, ends};
 
-use crate::Piece;
+use crate::{Piece, Text, TextPairs, Texts};
 use wasi_base::{IoKind, TrapText};
 
 /// What a call tells its guest where it makes no entry, and a line of a script that is done.
@@ -18,6 +18,14 @@ pub enum Told {
     Time { seconds: u64, nanoseconds: u32 },
     /// The seed for a guest's insecure uses: its low 64 bits, and its high ones.
     Seed { low: u64, high: u64 },
+    /// The variables of a guest's environment.
+    Environment(TextPairs),
+    /// A guest's arguments.
+    Arguments(Texts),
+    /// The directory in which a guest begins.
+    Cwd(Text),
+    /// There is none: the stream is no terminal, or the guest begins in no directory.
+    Absent,
     /// Not before the next delivery.
     Pending,
     /// The stream is at its end.

@@ -1,11 +1,11 @@
 ghost use Rattle.std.specs.Prelude.{◌≡◌, OnOk, OnErr, ◌++◌, [], ◌∷◌, codes, length, take};
 ghost use Rattle.std.specs.List.{AllByRecursion};
 ghost use Rattle.hex.specs.Hex.{IsBytes, encode_lower};
-ghost use Rattle.wasi_reply.specs.Field.{Field, IsField, IsTrap, worded};
+ghost use Rattle.wasi_reply.specs.Field.{Field, IsField, IsTrap, hex_of, worded};
 ghost use Rattle.wasi_reply.specs.Reply.{IsReply, told_fields, worked_fields, text_of, reply_line};
 ghost use Rattle.wasi_reply.specs.Outputs.{output_line};
 
-use crate::{Reply, Told, Worked};
+use crate::{Reply, TextPairs, Texts, Told, Worked};
 use itoa::Buffer;
 use std::alloc::Global;
 use wasi_base::{IoKind, OutOfMemory, TrapText};
@@ -59,10 +59,51 @@ fn push_hex(text: &mut Vec<u8>, word: &[u8], bytes: &[u8]) -> Result<(), OutOfMe
 {
     text.extend_from_slice(word)?;
     text.push(b' ')?;
+    push_bytes(text, bytes)
+}
+
+// lower-case digits, `-` for no bytes
+fn push_bytes(text: &mut Vec<u8>, bytes: &[u8]) -> Result<(), OutOfMemory>
+    ensures ok { OnOk result (text.new.items ≡ text.old.items ++ hex_of bytes.now) }
+    ensures err { OnErr result (take (length text.old.items) text.new.items ≡ text.old.items) }
+    ensures in_range { IsBytes bytes.now }
+{
     if bytes.is_empty() {
         text.push(b'-')?;
     } else {
         push_digits(text, bytes)?;
+    }
+    Ok(())
+}
+
+fn push_texts(text: &mut Vec<u8>, word: &[u8], texts: &Texts) -> Result<(), OutOfMemory>
+    ensures ok { OnOk result (text.new.items ≡ text.old.items ++ worded (word.now, Field.Texts texts.now ∷ [])) }
+    ensures err { OnErr result (take (length text.old.items) text.new.items ≡ text.old.items) }
+    ensures in_range { AllByRecursion IsBytes texts.now }
+{
+    text.extend_from_slice(word)?;
+    let mut mark = b' ';
+    for it in texts.as_slice() {
+        text.push(mark)?;
+        push_bytes(text, it.as_bytes())?;
+        mark = b',';
+    }
+    Ok(())
+}
+
+fn push_pairs(text: &mut Vec<u8>, word: &[u8], pairs: &TextPairs) -> Result<(), OutOfMemory>
+    ensures ok { OnOk result (text.new.items ≡ text.old.items ++ worded (word.now, Field.Pairs pairs.now ∷ [])) }
+    ensures err { OnErr result (take (length text.old.items) text.new.items ≡ text.old.items) }
+    ensures in_range { AllByRecursion (λ pair. IsBytes pair.0 × IsBytes pair.1) pairs.now }
+{
+    text.extend_from_slice(word)?;
+    let mut mark = b' ';
+    for pair in pairs.as_slice() {
+        text.push(mark)?;
+        push_bytes(text, pair.0.as_bytes())?;
+        text.push(b'=')?;
+        push_bytes(text, pair.1.as_bytes())?;
+        mark = b',';
     }
     Ok(())
 }
@@ -110,6 +151,10 @@ fn push_told(alloc: Global, text: &mut Vec<u8>, told: &Told) -> Result<(), OutOf
             nanoseconds,
         } => push_numbers(text, b"time", *seconds, u64::from(*nanoseconds)),
         Told::Seed { low, high } => push_numbers(text, b"seed", *low, *high),
+        Told::Environment(variables) => push_pairs(text, b"env", variables),
+        Told::Arguments(arguments) => push_texts(text, b"args", arguments),
+        Told::Cwd(cwd) => push_hex(text, b"cwd", cwd.as_str().as_bytes()),
+        Told::Absent => push_word(text, b"none"),
         Told::Pending => push_word(text, b"pending"),
         Told::Closed => push_word(text, b"closed"),
         Told::Failed(kind) => push_kind(text, b"failed", *kind),

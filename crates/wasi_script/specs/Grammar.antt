@@ -1,16 +1,18 @@
 -- Which scripts are valid, and the steps that they stand for.
-use Rattle.std.specs.Prelude.{◌≡◌, ℕ, ◌+◌, Bool, true, false, cond, not, ◌&&◌, nat_eq, nat_le, nat_lt, List, [], ◌∷◌, ◌++◌, length, Option, Some, None, codes}
-use Rattle.std.specs.List.{list_any}
+use Rattle.std.specs.Prelude.{◌≡◌, ℕ, ◌+◌, Bool, true, false, cond, not, ◌&&◌, nat_eq, nat_le, nat_lt, List, [], ◌∷◌, ◌++◌, length, Option, Some, None, unwrap_or, codes}
+use Rattle.std.specs.List.{list_any, slice_split}
 use Rattle.std.specs.Option.{option_map}
 use Rattle.std.specs.Str.{bytes_eq}
 pub use Rattle.wasi_words.specs.Fields.{Form, meaning_by, lines_of}
+use Rattle.wasi_script.specs.Contexts.{named_of, context_of}
 use Rattle.wasi_script.specs.Fields.{words_of, guest_of, number_of, u128_of, capacity_of, room_of, budget_of, exit_code_of, is_at_end, with_first, with_last, two_fields}
 use Rattle.wasi_script.specs.Name.{name_of}
 use Rattle.wasi_script.specs.Times.{time_of}
-use Rattle.wasi_script.specs.Bytes.{byte_string_of, declared_bytes_of}
+use Rattle.wasi_script.specs.Bytes.{byte_string_of, declared_bytes_of, text_of}
 use Rattle.wasi_script.specs.Plans.{read_plan_of, write_plan_of}
 use Rattle.wasi_base.specs.declared.source.Plan.{Plan}
 use Rattle.wasi_base.specs.declared.sink.SinkPlan.{SinkPlan}
+use Rattle.wasi_script.specs.declared.lines.Context.{Context}
 use Rattle.wasi_script.specs.declared.lines.Line.{Line}
 use Rattle.wasi_script.specs.declared.lines.Line.TheVariants as line
 use Rattle.wasi_script.specs.declared.lines.InputDeclaration.{InputDeclaration}
@@ -54,19 +56,29 @@ without_fields it fields = cond (is_at_end fields) (Some it) None
 abbrev pub input_of : List ℕ → Option Input
 input_of word =
     cond (bytes_eq word (codes "shared")) (Some input.Shared)
+    (cond (bytes_eq word (codes "terminal")) (Some input.Terminal)
     (cond (bytes_eq word (codes "empty")) (Some input.Empty)
-    (cond (bytes_eq word (codes "closed")) (Some input.Closed) (option_map input.Named (name_of word))))
+    (cond (bytes_eq word (codes "closed")) (Some input.Closed) (option_map input.Named (name_of word)))))
+
+-- a name, and after it `@tty` for a terminal
+abbrev pub named_output : List ℕ → List (List ℕ) → Option Output
+named_output name [] = Some (output.Named name)
+named_output name (mark ∷ rest) = cond (bytes_eq mark (codes "tty")) (without_fields (output.Terminal name) rest) None
+
+abbrev pub named_output_of : List (List ℕ) → Option Output
+named_output_of = with_first name_of named_output
 
 abbrev pub output_of : List ℕ → Option Output
 output_of word =
     cond (bytes_eq word (codes "empty")) (Some output.Empty)
     (cond (bytes_eq word (codes "sink")) (Some output.Sink)
-    (cond (bytes_eq word (codes "closed")) (Some output.Closed) (option_map output.Named (name_of word))))
+    (cond (bytes_eq word (codes "closed")) (Some output.Closed) (named_output_of (slice_split (λ byte. nat_eq byte 64) word))))
 
 abbrev pub exit_of : List ℕ → Option ExitStatus
 exit_of word = cond (bytes_eq word (codes "ok")) (Some exit.Ok) (cond (bytes_eq word (codes "err")) (Some exit.Err) None)
 
--- the calls that open a standard stream, those on an entry, those on the clocks and on the random sources, and the others
+-- the calls that open a standard stream, those on an entry, those on the clocks, on the random sources and on terminals,
+-- and the others
 abbrev pub open_calls : List (Form Call)
 open_calls =
     (codes "get-stdin", without_fields (call.Open standard.Input access.Plain))
@@ -75,6 +87,13 @@ open_calls =
     ∷ (codes "async-stdin", without_fields (call.Open standard.Input access.Polled))
     ∷ (codes "async-stdout", without_fields (call.Open standard.Output access.Polled))
     ∷ (codes "async-stderr", without_fields (call.Open standard.Error access.Polled))
+    ∷ []
+
+abbrev pub terminal_calls : List (Form Call)
+terminal_calls =
+    (codes "terminal-stdin", without_fields (call.Terminal standard.Input))
+    ∷ (codes "terminal-stdout", without_fields (call.Terminal standard.Output))
+    ∷ (codes "terminal-stderr", without_fields (call.Terminal standard.Error))
     ∷ []
 
 -- a call on the entry of a number, without more fields and with one
@@ -104,6 +123,9 @@ other_calls =
     (codes "drop", with_last number_of call.Drop)
     ∷ (codes "exit", with_last exit_of (λ status. call.Own (own.Exit status)))
     ∷ (codes "exit-code", with_last exit_code_of (λ code. call.Own (own.ExitCode code)))
+    ∷ (codes "get-environment", without_fields (call.Own own.Environment))
+    ∷ (codes "get-arguments", without_fields (call.Own own.Arguments))
+    ∷ (codes "initial-cwd", without_fields (call.Own own.InitialCwd))
     ∷ []
 
 -- a call on the clocks, without fields and with a number
@@ -146,7 +168,7 @@ random_calls =
     ∷ []
 
 abbrev pub call_of : List (List ℕ) → Option Call
-call_of = meaning_by (open_calls ++ (entry_calls ++ (other_calls ++ (clock_calls ++ random_calls))))
+call_of = meaning_by (open_calls ++ (entry_calls ++ (other_calls ++ (clock_calls ++ (random_calls ++ terminal_calls)))))
 
 -- the steps' fields
 abbrev pub pipe_of : List (List ℕ) → Option Line
@@ -175,19 +197,29 @@ buffered_of = with_first name_of (λ name. with_first room_of (λ room. with_fir
 abbrev pub guest_line_of : List (List ℕ) → Option Line
 guest_line_of = with_first guest_of (λ guest. with_last input_of (line.Guest guest))
 
--- a guest, and a setting of it
-abbrev pub setting_of : {A : Type 0} → (List ℕ → Option A) → (A → Setting) → List (List ℕ) → Option Line
-setting_of field it fields = option_map (λ both. line.Configure both.0 (it both.1)) (two_fields guest_of field fields)
+abbrev pub context_line_of : List (List ℕ) → Option Line
+context_line_of = with_first named_of (λ at. with_last input_of (line.Context at.0 at.1))
 
--- a random source of a guest, and what it is set to
+abbrev pub capacity_line_of : List (List ℕ) → Option Line
+capacity_line_of = with_first guest_of (λ guest. with_last capacity_of (line.Capacity guest))
+
+-- a context, and a setting of it
+abbrev pub setting_of : {A : Type 0} → (List ℕ → Option A) → (A → Setting) → List (List ℕ) → Option Line
+setting_of field it fields = option_map (λ both. line.Configure both.0 (it both.1)) (two_fields context_of field fields)
+
+-- a variable of the environment
+abbrev pub env_of : List (List ℕ) → Option Line
+env_of = with_first context_of (λ context. with_first text_of (λ key. with_last text_of (λ value. line.Configure context (setting.Env key value))))
+
+-- a random source of a context, and what it is set to
 abbrev pub source_of_word : List ℕ → Option RandomSource
 source_of_word word = cond (bytes_eq word (codes "secure")) (Some source.Secure) (cond (bytes_eq word (codes "insecure")) (Some source.Insecure) None)
 
 abbrev pub source_set : {A : Type 0} → (List ℕ → Option A) → (RandomSource → A → Setting) → List (List ℕ) → Option Line
-source_set field it = with_first guest_of (λ guest. with_first source_of_word (λ from. with_last field (λ value. line.Configure guest (it from value))))
+source_set field it = with_first context_of (λ context. with_first source_of_word (λ from. with_last field (λ value. line.Configure context (it from value))))
 
 abbrev pub call_line_of : List (List ℕ) → Option Line
-call_line_of = with_first guest_of (λ guest fields. option_map (line.Call guest) (call_of fields))
+call_line_of = with_first context_of (λ context fields. option_map (line.Call context) (call_of fields))
 
 -- `in` or `out`, and a name
 abbrev pub stream_tasks : List (Form StreamTask)
@@ -211,7 +243,7 @@ clock_settings =
 abbrev pub clock_of : List (List ℕ) → Option Line
 clock_of fields = option_map line.Clock (meaning_by clock_settings fields)
 
--- the steps that declare streams, and the others
+-- the steps that declare streams, those that say more of a context, and the others
 abbrev pub stream_lines : List (Form Line)
 stream_lines =
     (codes "pipe", pipe_of)
@@ -226,21 +258,29 @@ stream_lines =
 abbrev pub other_lines : List (Form Line)
 other_lines =
     (codes "guest", guest_line_of)
-    ∷ (codes "stdout", setting_of output_of setting.Stdout)
-    ∷ (codes "stderr", setting_of output_of setting.Stderr)
-    ∷ (codes "capacity", setting_of capacity_of setting.Capacity)
-    ∷ (codes "random", source_set byte_string_of setting.Random)
-    ∷ (codes "seeded", source_set number_of setting.Seeded)
-    ∷ (codes "seed", setting_of u128_of setting.InsecureSeed)
-    ∷ (codes "maxrandom", setting_of number_of setting.MaxRandom)
+    ∷ (codes "context", context_line_of)
+    ∷ (codes "capacity", capacity_line_of)
     ∷ (codes "capture", without_fields (line.Worker turn.Capture))
     ∷ (codes "deliver", without_fields (line.Worker turn.Deliver))
     ∷ (codes "turn", turn_of)
     ∷ (codes "clock", clock_of)
     ∷ []
 
+abbrev pub setting_lines : List (Form Line)
+setting_lines =
+    (codes "stdout", setting_of output_of setting.Stdout)
+    ∷ (codes "stderr", setting_of output_of setting.Stderr)
+    ∷ (codes "env", env_of)
+    ∷ (codes "arg", setting_of text_of setting.Arg)
+    ∷ (codes "cwd", setting_of text_of setting.Cwd)
+    ∷ (codes "random", source_set byte_string_of setting.Random)
+    ∷ (codes "seeded", source_set number_of setting.Seeded)
+    ∷ (codes "seed", setting_of u128_of setting.InsecureSeed)
+    ∷ (codes "maxrandom", setting_of number_of setting.MaxRandom)
+    ∷ []
+
 abbrev pub line_of : List (List ℕ) → Option Line
-line_of = meaning_by ((codes "call", call_line_of) ∷ stream_lines ++ other_lines)
+line_of = meaning_by ((codes "call", call_line_of) ∷ stream_lines ++ (other_lines ++ setting_lines))
 
 abbrev pub step_or_invalid : Option Line → Reading
 step_or_invalid None = Invalid
@@ -251,24 +291,28 @@ abbrev pub reading_of : List ℕ → Reading
 reading_of [] = Note
 reading_of (byte ∷ bytes) = cond (nat_eq byte 35) Note (step_or_invalid (line_of (words_of (byte ∷ bytes))))
 
--- What the lines so far declared: the guests, and which of them were called; the streams' names in order, and at which
--- of them a task reads ahead or writes behind.
+-- What the lines so far declared: the guests, which of them were called, and their named contexts; the streams' names in order, at which of
+-- them a task reads ahead or writes behind, and which are standard outputs of the host's process.
 pub record Names : Type 0 where
   pub is_guest : ℕ → Bool
   pub was_called : ℕ → Bool
+  pub is_context : ℕ → ℕ → Bool
   pub inputs : List (List ℕ)
   pub outputs : List (List ℕ)
   pub reads_ahead : List ℕ → Bool
   pub writes_behind : List ℕ → Bool
+  pub has_stdio : List ℕ → Bool
 
 abbrev pub no_names : Names
 no_names = record {
   is_guest = λ number. false;
   was_called = λ number. false;
+  is_context = λ guest id. false;
   inputs = [];
   outputs = [];
   reads_ahead = λ name. false;
   writes_behind = λ name. false;
+  has_stdio = λ name. false;
 }
 
 -- a name among others
@@ -287,12 +331,12 @@ input_stands names other = true
 -- .. and so are its outputs
 abbrev pub output_stands : Names → Output → Bool
 output_stands names (output.Named name) = is_among name names.outputs
+output_stands names (output.Terminal name) = names.has_stdio name
 output_stands names other = true
 
 abbrev pub setting_stands : Names → Setting → Bool
 setting_stands names (setting.Stdout it) = output_stands names it
 setting_stands names (setting.Stderr it) = output_stands names it
-setting_stands names (setting.Capacity capacity) = nat_le 1 capacity && nat_le capacity 65536
 setting_stands names (setting.Random from bytes) = nat_le 1 (length bytes)
 setting_stands names other = true
 
@@ -310,13 +354,19 @@ turn_stands names (task.Writer name) = names.writes_behind name
 abbrev pub may_set_up : Names → ℕ → Bool
 may_set_up names guest = names.is_guest guest && not (names.was_called guest)
 
+-- a guest's main context is there with the guest, a named one where it is declared
+abbrev pub context_stands : Names → Context → Bool
+context_stands names context = unwrap_or (option_map (names.is_context context.guest) context.named) true
+
 -- a step may stand after these lines
 abbrev pub may_stand : Names → Line → Bool
 may_stand names (line.Input name it) = may_declare names name
 may_stand names (line.Output name it) = may_declare names name && budget_stands it
 may_stand names (line.Guest guest it) = nat_lt guest 64 && (not (names.is_guest guest) && input_stands names it)
-may_stand names (line.Configure guest it) = may_set_up names guest && setting_stands names it
-may_stand names (line.Call guest it) = names.is_guest guest
+may_stand names (line.Context guest id it) = may_set_up names guest && (nat_lt id 16 && (not (names.is_context guest id) && input_stands names it))
+may_stand names (line.Capacity guest capacity) = may_set_up names guest && (nat_le 1 capacity && nat_le capacity 65536)
+may_stand names (line.Configure context it) = may_set_up names context.guest && (context_stands names context && setting_stands names it)
+may_stand names (line.Call context it) = names.is_guest context.guest && context_stands names context
 may_stand names (line.Worker it) = true
 may_stand names (line.Turn it) = turn_stands names it
 may_stand names (line.Clock it) = true
@@ -330,6 +380,11 @@ abbrev pub is_written_behind : OutputDeclaration → Bool
 is_written_behind (output_declaration.Buffered room plan budget) = true
 is_written_behind other = false
 
+-- .. and which are standard outputs of the host's process
+abbrev pub is_stdio : OutputDeclaration → Bool
+is_stdio (output_declaration.Stdio room plan) = true
+is_stdio other = false
+
 -- this is known of a guest, and of a name
 abbrev pub known : ℕ → Bool → (ℕ → Bool) → ℕ → Bool
 known guest it test number = cond (nat_eq number guest) it (test number)
@@ -337,15 +392,20 @@ known guest it test number = cond (nat_eq number guest) it (test number)
 abbrev pub also : ℕ → (ℕ → Bool) → ℕ → Bool
 also guest = known guest true
 
+abbrev pub also_context : ℕ → ℕ → (ℕ → ℕ → Bool) → ℕ → ℕ → Bool
+also_context guest id test number other = cond (nat_eq number guest && nat_eq other id) true (test number other)
+
 abbrev pub named : List ℕ → Bool → (List ℕ → Bool) → List ℕ → Bool
 named name it test other = cond (bytes_eq other name) it (test other)
 
 abbrev pub names_after : Names → Line → Names
 names_after names (line.Input name it) = record names { inputs = names.inputs ++ name ∷ []; reads_ahead = named name (is_read_ahead it) names.reads_ahead }
-names_after names (line.Output name it) = record names { outputs = names.outputs ++ name ∷ []; writes_behind = named name (is_written_behind it) names.writes_behind }
+names_after names (line.Output name it) = record names { outputs = names.outputs ++ name ∷ []; writes_behind = named name (is_written_behind it) names.writes_behind; has_stdio = named name (is_stdio it) names.has_stdio }
 names_after names (line.Guest guest it) = record names { is_guest = also guest names.is_guest }
-names_after names (line.Configure guest it) = names
-names_after names (line.Call guest it) = record names { was_called = also guest names.was_called }
+names_after names (line.Context guest id it) = record names { is_context = also_context guest id names.is_context }
+names_after names (line.Capacity guest capacity) = names
+names_after names (line.Configure context it) = names
+names_after names (line.Call context it) = record names { was_called = also context.guest names.was_called }
 names_after names (line.Worker it) = names
 names_after names (line.Turn it) = names
 names_after names (line.Clock it) = names

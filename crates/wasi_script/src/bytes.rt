@@ -1,6 +1,6 @@
 ghost use Rattle.std.specs.Prelude.{◌≡◌, length, IfOk};
-ghost use Rattle.wasi_script.specs.Bytes.{hex_of, byte_of, repeated_of, byte_string_of, declared_bytes_of, declared_bytes};
-ghost use Rattle.wasi_script.specs.Reads.{Reads};
+ghost use Rattle.wasi_script.specs.Bytes.{hex_of, plain_bytes_of, byte_of, repeated_of, byte_string_of, declared_bytes_of, declared_bytes};
+ghost use Rattle.wasi_script.specs.Reads.{Reads, ReadsItems};
 
 use crate::numbers::parse_count;
 use crate::refusal::Refusal;
@@ -121,14 +121,33 @@ impl ByteString {
     fn listed(alloc: Global, text: &[u8]) -> Result<ByteString, Refusal>
         ensures { Reads result (hex_of text.now) }
     {
-        if text.is_empty() {
-            return Err(Refusal::Invalid);
-        }
-        match hex::decode(alloc, text) {
-            Ok(bytes) => Ok(ByteString::from_vec(bytes)),
-            Err(FromHexError::OutOfMemory) => Err(Refusal::OutOfMemory),
-            Err(_) => Err(Refusal::Invalid),
-        }
+        let bytes = read_hex(alloc, text)?;
+        Ok(ByteString::from_vec(bytes))
+    }
+}
+
+// one byte at least, in hexadecimal
+fn read_hex(alloc: Global, text: &[u8]) -> Result<Vec<u8>, Refusal>
+    ensures { ReadsItems result (hex_of text.now) }
+{
+    if text.is_empty() {
+        return Err(Refusal::Invalid);
+    }
+    match hex::decode(alloc, text) {
+        Ok(bytes) => Ok(bytes),
+        Err(FromHexError::OutOfMemory) => Err(Refusal::OutOfMemory),
+        Err(_) => Err(Refusal::Invalid),
+    }
+}
+
+/// The bytes that a text stands for where none may be repeated: `-`, or hexadecimal digits.
+pub fn read_plain(alloc: Global, text: &[u8]) -> Result<Vec<u8>, Refusal>
+    ensures { ReadsItems result (plain_bytes_of text.now) }
+{
+    if is(text, b"-") {
+        Ok(Vec::new(alloc))
+    } else {
+        read_hex(alloc, text)
     }
 }
 

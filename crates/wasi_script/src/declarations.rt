@@ -1,10 +1,13 @@
 ghost use Rattle.std.specs.Prelude.{◌≡◌, ◌+◌, ◌<◌, length, slice_index_or, true, false, OnOk, OnErr};
-ghost use Rattle.wasi_script.specs.Grammar.{Names, may_stand, may_declare, budget_stands, may_set_up, input_stands, output_stands, setting_stands, turn_stands, is_read_ahead, is_written_behind, names_after, no_names, is_among};
+ghost use Rattle.wasi_script.specs.Grammar.{Names, may_stand, may_declare, budget_stands, may_set_up, context_stands, input_stands, output_stands, setting_stands, turn_stands, names_after, no_names, is_among};
+ghost use Rattle.wasi_script.specs.Declarations.{input_flags, output_flags, context_at};
 ghost use Rattle.wasi_script.specs.declared.lines.Line.TheVariants as line;
 
-use crate::lines::{Input, InputDeclaration, Line, Output, OutputDeclaration, Setting, StreamTask};
+use crate::lines::{
+    Context, Input, InputDeclaration, Line, Output, OutputDeclaration, Setting, StreamTask,
+};
 use crate::name::Name;
-use crate::name_set::NameSet;
+use crate::name_set::{NameSet, StreamFlags};
 use std::alloc::Global;
 use wasi_base::OutOfMemory;
 
@@ -34,6 +37,10 @@ pub trait Declared {
     fn was_called(&self, guest: u32) -> bool
         ensures { result ≡ (names self.now).was_called guest };
 
+    /// Whether the guest has a named context of this number.
+    fn has_context(&self, guest: u32, id: u32) -> bool
+        ensures { result ≡ (names self.now).is_context guest id };
+
     /// Whether there is an input of this name that a task reads ahead.
     fn reads_ahead(&self, name: &[u8]) -> bool
         ensures { result ≡ (names self.now).reads_ahead name.now };
@@ -41,6 +48,10 @@ pub trait Declared {
     /// Whether there is an output of this name that buffers what it accepts for a task.
     fn writes_behind(&self, name: &[u8]) -> bool
         ensures { result ≡ (names self.now).writes_behind name.now };
+
+    /// Whether there is an output of this name that is a standard output of the host's process.
+    fn has_stdio(&self, name: &[u8]) -> bool
+        ensures { result ≡ (names self.now).has_stdio name.now };
 
     /// Whether a line may stand after what was declared.
     final fn allow(&self, line: &Line) -> bool
@@ -52,10 +63,20 @@ pub trait Declared {
             Line::Guest { guest, input } => {
                 *guest < 64 && (!self.has_guest(*guest) && self.allow_input(input))
             }
-            Line::Configure { guest, setting } => {
-                self.allow_set_up(*guest) && self.allow_setting(setting)
+            Line::Context { guest, id, input } => {
+                self.allow_set_up(*guest)
+                    && (*id < 16 && (!self.has_context(*guest, *id) && self.allow_input(input)))
             }
-            Line::Call { guest, call: _ } => self.has_guest(*guest),
+            Line::Capacity { guest, capacity } => {
+                self.allow_set_up(*guest) && (1 <= *capacity && *capacity <= 65536)
+            }
+            Line::Configure { context, setting } => {
+                self.allow_set_up(context.guest)
+                    && (self.allow_context(context) && self.allow_setting(setting))
+            }
+            Line::Call { context, call: _ } => {
+                self.has_guest(context.guest) && self.allow_context(context)
+            }
             Line::Worker(_) | Line::Clock(_) => true,
             Line::Turn(task) => self.allow_turn(task),
         }
@@ -76,15 +97,25 @@ pub trait Declared {
         self.has_guest(guest) && !self.was_called(guest)
     }
 
-    /// Whether they may say this of it.
+    /// Whether a declared guest has this context.
+    final fn allow_context(&self, context: &Context) -> bool
+        ensures { result ≡ context_stands (names self.now) context.now }
+    {
+        match context.named {
+            None => true,
+            Some(id) => self.has_context(context.guest, id),
+        }
+    }
+
+    /// Whether they may say this of one of its contexts.
     final fn allow_setting(&self, setting: &Setting) -> bool
         ensures { result ≡ setting_stands (names self.now) setting.now }
     {
         match setting {
             Setting::Stdout(output) | Setting::Stderr(output) => self.allow_output(output),
-            Setting::Capacity(capacity) => 1 <= *capacity && *capacity <= 65536,
             Setting::Random { source: _, bytes } => 1 <= bytes.len(),
             Setting::Seeded { .. } | Setting::InsecureSeed(_) | Setting::MaxRandom(_) => true,
+            Setting::Env { .. } | Setting::Arg(_) | Setting::Cwd(_) => true,
         }
     }
 
@@ -93,7 +124,7 @@ pub trait Declared {
         ensures { result ≡ input_stands (names self.now) input.now }
     {
         match input {
-            Input::Shared | Input::Empty | Input::Closed => true,
+            Input::Shared | Input::Terminal | Input::Empty | Input::Closed => true,
             Input::Named(name) => self.has_input(name.as_bytes()),
         }
     }
@@ -105,6 +136,7 @@ pub trait Declared {
         match output {
             Output::Empty | Output::Sink | Output::Closed => true,
             Output::Named(name) => self.has_output(name.as_bytes()),
+            Output::Terminal(name) => self.has_stdio(name.as_bytes()),
         }
     }
 
@@ -119,6 +151,13 @@ pub trait Declared {
     }
 }
 
+// a named context's flag
+fn has_context_flag(flags: &[bool; 1024], guest: u32, id: u32) -> bool
+    ensures { result ≡ context_at flags.now guest id }
+{
+    guest < 64 && (id < 16 && flags[guest as usize * 16 + id as usize])
+}
+
 // a buffered output's budget is one byte at least
 fn has_budget(output: &OutputDeclaration) -> bool
     ensures { result ≡ budget_stands output.now }
@@ -131,16 +170,22 @@ fn has_budget(output: &OutputDeclaration) -> bool
     }
 }
 
-fn is_read_ahead(input: &InputDeclaration) -> bool
-    ensures { result ≡ is_read_ahead input.now }
+fn input_flags(input: &InputDeclaration) -> StreamFlags
+    ensures { result ≡ input_flags input.now }
 {
-    matches!(input, InputDeclaration::Async { .. })
+    StreamFlags {
+        has_task: matches!(input, InputDeclaration::Async { .. }),
+        is_stdio: false,
+    }
 }
 
-fn is_written_behind(output: &OutputDeclaration) -> bool
-    ensures { result ≡ is_written_behind output.now }
+fn output_flags(output: &OutputDeclaration) -> StreamFlags
+    ensures { result ≡ output_flags output.now }
 {
-    matches!(output, OutputDeclaration::Buffered { .. })
+    StreamFlags {
+        has_task: matches!(output, OutputDeclaration::Buffered { .. }),
+        is_stdio: matches!(output, OutputDeclaration::Stdio { .. }),
+    }
 }
 
 // a guest's flag
@@ -150,11 +195,14 @@ fn has_flag(flags: &[bool; 64], guest: u32) -> bool
     guest < 64 && flags[guest as usize]
 }
 
-/// What the lines so far declared: guests, inputs and outputs, and which of the guests have called.
+/// What the lines so far declared: guests and their named contexts, inputs and outputs, and which of
+/// the guests have called.
 #[derive(Drop)]
 pub struct Declarations {
     declared: [bool; 64],
     called: [bool; 64],
+    // 16 for each guest
+    contexts: [bool; 1024],
     inputs: NameSet,
     outputs: NameSet,
 }
@@ -184,12 +232,20 @@ impl Declared for Declarations {
         has_flag(&self.called, guest)
     }
 
+    fn has_context(&self, guest: u32, id: u32) -> bool {
+        has_context_flag(&self.contexts, guest, id)
+    }
+
     fn reads_ahead(&self, name: &[u8]) -> bool {
         self.inputs.has_task(name)
     }
 
     fn writes_behind(&self, name: &[u8]) -> bool {
         self.outputs.has_task(name)
+    }
+
+    fn has_stdio(&self, name: &[u8]) -> bool {
+        self.outputs.has_stdio(name)
     }
 }
 
@@ -202,6 +258,7 @@ impl Declarations {
         Declarations {
             declared: [false; 64],
             called: [false; 64],
+            contexts: [false; 1024],
             inputs: NameSet::none(alloc),
             outputs: NameSet::none(alloc),
         }
@@ -215,16 +272,22 @@ impl Declarations {
     {
         match line {
             Line::Input { name, input } => {
-                self.inputs
-                    .add(alloc, name.as_bytes(), is_read_ahead(input))?;
+                self.inputs.add(alloc, name.as_bytes(), input_flags(input))?;
             }
             Line::Output { name, output } => {
                 self.outputs
-                    .add(alloc, name.as_bytes(), is_written_behind(output))?;
+                    .add(alloc, name.as_bytes(), output_flags(output))?;
             }
             Line::Guest { guest, input: _ } => self.declared[*guest as usize] = true,
-            Line::Call { guest, call: _ } => self.called[*guest as usize] = true,
-            Line::Configure { .. } | Line::Worker(_) | Line::Turn(_) | Line::Clock(_) => {}
+            Line::Context { guest, id, .. } => {
+                self.contexts[*guest as usize * 16 + *id as usize] = true;
+            }
+            Line::Call { context, call: _ } => self.called[context.guest as usize] = true,
+            Line::Capacity { .. }
+            | Line::Configure { .. }
+            | Line::Worker(_)
+            | Line::Turn(_)
+            | Line::Clock(_) => {}
         }
         Ok(())
     }

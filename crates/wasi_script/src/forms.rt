@@ -1,8 +1,9 @@
 ghost use Rattle.std.specs.Prelude.{◌≡◌, ◌∷◌, ◌++◌, IfOk};
-ghost use Rattle.wasi_script.specs.Grammar.{meaning_by, without_fields, entry_calls, other_calls, clock_calls, random_calls, clock_settings, on_clocks, on_random, source_of_word, source_set, other_lines, call_of, line_of, pipe_of, source_fields, out_pipe_of, sink_fields, buffered_of, turn_of, clock_of, guest_line_of, call_line_of, on_number as on_number_of, reading_of, exit_of, input_of, output_of};
-ghost use Rattle.wasi_script.specs.Fields.{two_fields, guest_of, number_of, u128_of, capacity_of};
+ghost use Rattle.wasi_script.specs.Grammar.{meaning_by, without_fields, entry_calls, other_calls, clock_calls, random_calls, clock_settings, on_clocks, on_random, source_of_word, source_set, other_lines, setting_lines, terminal_calls, call_of, line_of, pipe_of, source_fields, out_pipe_of, sink_fields, buffered_of, turn_of, clock_of, guest_line_of, context_line_of, capacity_line_of, env_of, call_line_of, on_number as on_number_of, reading_of, exit_of, input_of, output_of, named_output_of};
+ghost use Rattle.wasi_script.specs.Fields.{two_fields, number_of, u128_of};
+ghost use Rattle.wasi_script.specs.Contexts.{context_of};
 ghost use Rattle.wasi_script.specs.declared.lines.Setting.TheVariants as setting;
-ghost use Rattle.wasi_script.specs.Bytes.{byte_string_of};
+ghost use Rattle.wasi_script.specs.Bytes.{byte_string_of, text_of};
 ghost use Rattle.wasi_script.specs.declared.lines.Call.TheVariants as call;
 ghost use Rattle.wasi_script.specs.declared.lines.OwnCall.TheVariants as own;
 ghost use Rattle.wasi_script.specs.declared.lines.RandomCall.TheVariants as random;
@@ -10,15 +11,17 @@ ghost use Rattle.wasi_script.specs.declared.lines.Line.TheVariants as line;
 ghost use Rattle.wasi_script.specs.Reads.{Reads};
 
 use crate::bytes::ByteString;
+use crate::contexts::{parse_context, parse_named};
 use crate::lines::{
-    Access, Call, ClockCall, ClockSetting, EntryCall, ExitStatus, Input, InputDeclaration, Line,
-    Output, OutputDeclaration, OwnCall, RandomCall, RandomSource, Setting, Standard, StreamTask,
-    WorkerTurn,
+    Access, Call, ClockCall, ClockSetting, Context, EntryCall, ExitStatus, Input, InputDeclaration,
+    Line, Output, OutputDeclaration, OwnCall, RandomCall, RandomSource, Setting, Standard,
+    StreamTask, WorkerTurn,
 };
 use crate::name::Name;
 use crate::numbers::{parse_budget, parse_capacity, parse_exit_code, parse_guest, parse_room};
 use crate::plan::{ReadPlan, WritePlan};
 use crate::refusal::Refusal;
+use crate::text::Text;
 use crate::times::parse_time;
 use std::alloc::Global;
 use wasi_base::OutOfMemory;
@@ -78,29 +81,14 @@ fn parse_line(alloc: Global, mut words: Parts) -> Result<Line, Refusal>
 
 // a line that declares no stream
 fn parse_other_line(alloc: Global, word: &[u8], words: Parts) -> Result<Line, Refusal>
-    ensures { Reads result (meaning_by other_lines (word.now ∷ words.entry)) }
+    ensures { Reads result (meaning_by (other_lines ++ setting_lines) (word.now ∷ words.entry)) }
 {
     if is(word, b"guest") {
         parse_guest_line(alloc, words)
-    } else if is(word, b"stdout") {
-        let (guest, output) = guest_and_output(alloc, words)?;
-        Ok(configure(guest, Setting::Stdout(output)))
-    } else if is(word, b"stderr") {
-        let (guest, output) = guest_and_output(alloc, words)?;
-        Ok(configure(guest, Setting::Stderr(output)))
+    } else if is(word, b"context") {
+        parse_context_line(alloc, words)
     } else if is(word, b"capacity") {
-        let (guest, capacity) = guest_and_capacity(words).ok_or(Refusal::Invalid)?;
-        Ok(configure(guest, Setting::Capacity(capacity)))
-    } else if is(word, b"random") {
-        parse_random_line(alloc, words)
-    } else if is(word, b"seeded") {
-        parse_seeded_line(words).ok_or(Refusal::Invalid)
-    } else if is(word, b"seed") {
-        let (guest, seed) = guest_and_seed(words).ok_or(Refusal::Invalid)?;
-        Ok(configure(guest, Setting::InsecureSeed(seed)))
-    } else if is(word, b"maxrandom") {
-        let (guest, size) = guest_and_number(words).ok_or(Refusal::Invalid)?;
-        Ok(configure(guest, Setting::MaxRandom(size)))
+        parse_capacity_line(words).ok_or(Refusal::Invalid)
     } else if is(word, b"capture") {
         worker(words, WorkerTurn::Capture)
     } else if is(word, b"deliver") {
@@ -110,6 +98,39 @@ fn parse_other_line(alloc: Global, word: &[u8], words: Parts) -> Result<Line, Re
     } else if is(word, b"clock") {
         let setting = parse_clock_setting(words).ok_or(Refusal::Invalid)?;
         Ok(Line::Clock(setting))
+    } else {
+        parse_setting_line(alloc, word, words)
+    }
+}
+
+// a line that says more of a context
+fn parse_setting_line(alloc: Global, word: &[u8], words: Parts) -> Result<Line, Refusal>
+    ensures { Reads result (meaning_by setting_lines (word.now ∷ words.entry)) }
+{
+    if is(word, b"stdout") {
+        let (context, output) = context_and_output(alloc, words)?;
+        Ok(configure(context, Setting::Stdout(output)))
+    } else if is(word, b"stderr") {
+        let (context, output) = context_and_output(alloc, words)?;
+        Ok(configure(context, Setting::Stderr(output)))
+    } else if is(word, b"env") {
+        parse_env_line(alloc, words)
+    } else if is(word, b"arg") {
+        let (context, text) = context_and_text(alloc, words)?;
+        Ok(configure(context, Setting::Arg(text)))
+    } else if is(word, b"cwd") {
+        let (context, text) = context_and_text(alloc, words)?;
+        Ok(configure(context, Setting::Cwd(text)))
+    } else if is(word, b"random") {
+        parse_random_line(alloc, words)
+    } else if is(word, b"seeded") {
+        parse_seeded_line(words).ok_or(Refusal::Invalid)
+    } else if is(word, b"seed") {
+        let (context, seed) = context_and_seed(words).ok_or(Refusal::Invalid)?;
+        Ok(configure(context, Setting::InsecureSeed(seed)))
+    } else if is(word, b"maxrandom") {
+        let (context, size) = context_and_number(words).ok_or(Refusal::Invalid)?;
+        Ok(configure(context, Setting::MaxRandom(size)))
     } else {
         Err(Refusal::Invalid)
     }
@@ -127,10 +148,10 @@ fn output(name: Name, output: OutputDeclaration) -> Line
     Line::Output { name, output }
 }
 
-fn configure(guest: u32, setting: Setting) -> Line
-    ensures { result ≡ line.Configure guest setting }
+fn configure(context: Context, setting: Setting) -> Line
+    ensures { result ≡ line.Configure context setting }
 {
-    Line::Configure { guest, setting }
+    Line::Configure { context, setting }
 }
 
 fn worker(words: Parts, turn: WorkerTurn) -> Result<Line, Refusal>
@@ -237,57 +258,85 @@ fn parse_guest_line(alloc: Global, mut words: Parts) -> Result<Line, Refusal>
     Ok(Line::Guest { guest, input })
 }
 
-fn guest_and_output(alloc: Global, mut words: Parts) -> Result<(u32, Output), Refusal>
-    ensures { Reads result (two_fields guest_of output_of words.entry) }
+fn parse_context_line(alloc: Global, mut words: Parts) -> Result<Line, Refusal>
+    ensures { Reads result (context_line_of words.entry) }
 {
     let word = words.next().ok_or(Refusal::Invalid)?;
-    let guest = parse_guest(word).ok_or(Refusal::Invalid)?;
-    let output = parse_output(alloc, only(words).ok_or(Refusal::Invalid)?)?;
-    Ok((guest, output))
+    let (guest, id) = parse_named(word).ok_or(Refusal::Invalid)?;
+    let input = parse_input(alloc, only(words).ok_or(Refusal::Invalid)?)?;
+    Ok(Line::Context { guest, id, input })
 }
 
-fn guest_and_capacity(mut words: Parts) -> Option<(u32, u32)>
-    ensures { result ≡ two_fields guest_of capacity_of words.entry }
+fn parse_capacity_line(mut words: Parts) -> Option<Line>
+    ensures { result ≡ capacity_line_of words.entry }
 {
     let guest = parse_guest(words.next()?)?;
     let capacity = parse_capacity(only(words)?)?;
-    Some((guest, capacity))
+    Some(Line::Capacity { guest, capacity })
 }
 
-fn guest_and_seed(mut words: Parts) -> Option<(u32, u128)>
-    ensures { result ≡ two_fields guest_of u128_of words.entry }
+fn context_and_output(alloc: Global, mut words: Parts) -> Result<(Context, Output), Refusal>
+    ensures { Reads result (two_fields context_of output_of words.entry) }
 {
-    let guest = parse_guest(words.next()?)?;
+    let word = words.next().ok_or(Refusal::Invalid)?;
+    let context = parse_context(word).ok_or(Refusal::Invalid)?;
+    let output = parse_output(alloc, only(words).ok_or(Refusal::Invalid)?)?;
+    Ok((context, output))
+}
+
+fn context_and_text(alloc: Global, mut words: Parts) -> Result<(Context, Text), Refusal>
+    ensures { Reads result (two_fields context_of text_of words.entry) }
+{
+    let word = words.next().ok_or(Refusal::Invalid)?;
+    let context = parse_context(word).ok_or(Refusal::Invalid)?;
+    let text = Text::read(alloc, only(words).ok_or(Refusal::Invalid)?)?;
+    Ok((context, text))
+}
+
+fn context_and_seed(mut words: Parts) -> Option<(Context, u128)>
+    ensures { result ≡ two_fields context_of u128_of words.entry }
+{
+    let context = parse_context(words.next()?)?;
     let seed = parse_u128(only(words)?)?;
-    Some((guest, seed))
+    Some((context, seed))
 }
 
-fn guest_and_number(mut words: Parts) -> Option<(u32, u64)>
-    ensures { result ≡ two_fields guest_of number_of words.entry }
+fn context_and_number(mut words: Parts) -> Option<(Context, u64)>
+    ensures { result ≡ two_fields context_of number_of words.entry }
 {
-    let guest = parse_guest(words.next()?)?;
+    let context = parse_context(words.next()?)?;
     let number = parse_number(only(words)?)?;
-    Some((guest, number))
+    Some((context, number))
+}
+
+fn parse_env_line(alloc: Global, mut words: Parts) -> Result<Line, Refusal>
+    ensures { Reads result (env_of words.entry) }
+{
+    let word = words.next().ok_or(Refusal::Invalid)?;
+    let context = parse_context(word).ok_or(Refusal::Invalid)?;
+    let key = Text::read(alloc, words.next().ok_or(Refusal::Invalid)?)?;
+    let value = Text::read(alloc, only(words).ok_or(Refusal::Invalid)?)?;
+    Ok(configure(context, Setting::Env { key, value }))
 }
 
 fn parse_random_line(alloc: Global, mut words: Parts) -> Result<Line, Refusal>
     ensures { Reads result (source_set byte_string_of setting.Random words.entry) }
 {
     let word = words.next().ok_or(Refusal::Invalid)?;
-    let guest = parse_guest(word).ok_or(Refusal::Invalid)?;
+    let context = parse_context(word).ok_or(Refusal::Invalid)?;
     let word = words.next().ok_or(Refusal::Invalid)?;
     let source = parse_source(word).ok_or(Refusal::Invalid)?;
     let bytes = ByteString::read(alloc, only(words).ok_or(Refusal::Invalid)?)?;
-    Ok(configure(guest, Setting::Random { source, bytes }))
+    Ok(configure(context, Setting::Random { source, bytes }))
 }
 
 fn parse_seeded_line(mut words: Parts) -> Option<Line>
     ensures { result ≡ source_set number_of setting.Seeded words.entry }
 {
-    let guest = parse_guest(words.next()?)?;
+    let context = parse_context(words.next()?)?;
     let source = parse_source(words.next()?)?;
     let seed = parse_number(only(words)?)?;
-    Some(configure(guest, Setting::Seeded { source, seed }))
+    Some(configure(context, Setting::Seeded { source, seed }))
 }
 
 fn parse_source(word: &[u8]) -> Option<RandomSource>
@@ -306,9 +355,9 @@ fn parse_call_line(alloc: Global, mut words: Parts) -> Result<Line, Refusal>
     ensures { Reads result (call_line_of words.entry) }
 {
     let word = words.next().ok_or(Refusal::Invalid)?;
-    let guest = parse_guest(word).ok_or(Refusal::Invalid)?;
+    let context = parse_context(word).ok_or(Refusal::Invalid)?;
     let call = parse_call(alloc, words)?;
-    Ok(Line::Call { guest, call })
+    Ok(Line::Call { context, call })
 }
 
 // a call that opens a standard stream, or another one
@@ -343,7 +392,7 @@ fn open(words: Parts, stream: Standard, access: Access) -> Result<Call, Refusal>
 
 // a call on the entry of a number, or another one
 fn parse_entry_call(alloc: Global, name: &[u8], words: Parts) -> Result<Call, Refusal>
-    ensures { Reads result (meaning_by (entry_calls ++ (other_calls ++ (clock_calls ++ random_calls))) (name.now ∷ words.entry)) }
+    ensures { Reads result (meaning_by (entry_calls ++ (other_calls ++ (clock_calls ++ (random_calls ++ terminal_calls)))) (name.now ∷ words.entry)) }
 {
     if is(name, b"read") {
         let (number, size) = number_and_number(words)?;
@@ -415,7 +464,7 @@ fn number_and_bytes(alloc: Global, mut words: Parts) -> Result<(u64, ByteString)
 
 // a call on an entry of any kind, or on none
 fn parse_other_call(name: &[u8], words: Parts) -> Option<Call>
-    ensures { result ≡ meaning_by (other_calls ++ (clock_calls ++ random_calls)) (name.now ∷ words.entry) }
+    ensures { result ≡ meaning_by (other_calls ++ (clock_calls ++ (random_calls ++ terminal_calls))) (name.now ∷ words.entry) }
 {
     if is(name, b"drop") {
         let number = parse_number(only(words)?)?;
@@ -426,14 +475,20 @@ fn parse_other_call(name: &[u8], words: Parts) -> Option<Call>
     } else if is(name, b"exit-code") {
         let code = parse_exit_code(only(words)?)?;
         Some(Call::Own(OwnCall::ExitCode { code }))
+    } else if is(name, b"get-environment") {
+        own_call(words, OwnCall::Environment)
+    } else if is(name, b"get-arguments") {
+        own_call(words, OwnCall::Arguments)
+    } else if is(name, b"initial-cwd") {
+        own_call(words, OwnCall::InitialCwd)
     } else {
         parse_clock_call(name, words)
     }
 }
 
-// a call on the clocks, or on the random sources
+// a call on the clocks, or another one
 fn parse_clock_call(name: &[u8], words: Parts) -> Option<Call>
-    ensures { result ≡ meaning_by (clock_calls ++ random_calls) (name.now ∷ words.entry) }
+    ensures { result ≡ meaning_by (clock_calls ++ (random_calls ++ terminal_calls)) (name.now ∷ words.entry) }
 {
     if is(name, b"wall-now") {
         on_clocks(words, ClockCall::WallNow)
@@ -464,9 +519,9 @@ fn parse_clock_call(name: &[u8], words: Parts) -> Option<Call>
     }
 }
 
-// a call on the random sources
+// a call on the random sources, or for a terminal
 fn parse_random_call(name: &[u8], words: Parts) -> Option<Call>
-    ensures { result ≡ meaning_by random_calls (name.now ∷ words.entry) }
+    ensures { result ≡ meaning_by (random_calls ++ terminal_calls) (name.now ∷ words.entry) }
 {
     if is(name, b"random-bytes") {
         let count = parse_number(only(words)?)?;
@@ -489,8 +544,29 @@ fn parse_random_call(name: &[u8], words: Parts) -> Option<Call>
     } else if is(name, b"insecure-seed") {
         on_random(words, RandomCall::InsecureSeed)
     } else {
+        parse_terminal_call(name, words)
+    }
+}
+
+// a call for a standard stream where it is a terminal
+fn parse_terminal_call(name: &[u8], words: Parts) -> Option<Call>
+    ensures { result ≡ meaning_by terminal_calls (name.now ∷ words.entry) }
+{
+    if is(name, b"terminal-stdin") {
+        terminal(words, Standard::Input)
+    } else if is(name, b"terminal-stdout") {
+        terminal(words, Standard::Output)
+    } else if is(name, b"terminal-stderr") {
+        terminal(words, Standard::Error)
+    } else {
         None
     }
+}
+
+fn terminal(words: Parts, stream: Standard) -> Option<Call>
+    ensures { result ≡ without_fields (call.Terminal stream) words.entry }
+{
+    is_done(words).then_some(Call::Terminal { stream })
 }
 
 fn random_bytes(source: RandomSource, count: u64) -> Call
@@ -511,6 +587,12 @@ fn on_random(words: Parts, it: RandomCall) -> Option<Call>
     is_done(words).then_some(Call::Random(it))
 }
 
+fn own_call(words: Parts, it: OwnCall) -> Option<Call>
+    ensures { result ≡ without_fields (call.Own it) words.entry }
+{
+    is_done(words).then_some(Call::Own(it))
+}
+
 fn clock(it: ClockCall) -> Call
     ensures { result ≡ call.Own (own.Clock it) }
 {
@@ -528,6 +610,8 @@ fn parse_input(alloc: Global, word: &[u8]) -> Result<Input, Refusal>
 {
     if is(word, b"shared") {
         Ok(Input::Shared)
+    } else if is(word, b"terminal") {
+        Ok(Input::Terminal)
     } else if is(word, b"empty") {
         Ok(Input::Empty)
     } else if is(word, b"closed") {
@@ -548,8 +632,19 @@ fn parse_output(alloc: Global, word: &[u8]) -> Result<Output, Refusal>
     } else if is(word, b"closed") {
         Ok(Output::Closed)
     } else {
-        let name = Name::new(alloc, word)?;
-        Ok(Output::Named(name))
+        parse_named_output(alloc, Parts::new(word, b'@'))
+    }
+}
+
+// a name, and after it `@tty` for a terminal
+fn parse_named_output(alloc: Global, mut parts: Parts) -> Result<Output, Refusal>
+    ensures { Reads result (named_output_of parts.entry) }
+{
+    let name = Name::new(alloc, parts.next().ok_or(Refusal::Invalid)?)?;
+    match parts.next() {
+        None => Ok(Output::Named(name)),
+        Some(mark) if is(mark, b"tty") && is_done(parts) => Ok(Output::Terminal(name)),
+        Some(_) => Err(Refusal::Invalid),
     }
 }
 

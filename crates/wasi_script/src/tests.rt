@@ -8,8 +8,8 @@ mod refusals;
 mod tasks;
 
 use crate::{
-    ByteString, Input, InputDeclaration, Line, Name, Output, OutputDeclaration, ReadPlan, Refusal,
-    Script, ScriptError, Setting, WritePlan, parse_script,
+    ByteString, Context, Input, InputDeclaration, Line, Name, Output, OutputDeclaration, ReadPlan,
+    Refusal, Script, ScriptError, Setting, WritePlan, parse_script,
 };
 use std::alloc::Global;
 use std::process::Abort;
@@ -301,7 +301,10 @@ fn a_guest_has_a_standard_output(rt: HostRuntime) -> Result<(), Fail> {
     let script = set_up(&rt, rt.alloc(), "stdout 7 O")?;
     match script.line(2) {
         Line::Configure {
-            guest: 7,
+            context: Context {
+                guest: 7,
+                named: None,
+            },
             setting: Setting::Stdout(Output::Named(name)),
         } => check_name(&rt, name, b"O"),
         _ => panic!(rt; "no output"),
@@ -311,7 +314,10 @@ fn a_guest_has_a_standard_output(rt: HostRuntime) -> Result<(), Fail> {
         matches!(
             script.line(2),
             Line::Configure {
-                guest: 7,
+                context: Context {
+                    guest: 7,
+                    named: None
+                },
                 setting: Setting::Stdout(Output::Empty)
             }
         )
@@ -321,7 +327,10 @@ fn a_guest_has_a_standard_output(rt: HostRuntime) -> Result<(), Fail> {
         matches!(
             script.line(2),
             Line::Configure {
-                guest: 7,
+                context: Context {
+                    guest: 7,
+                    named: None
+                },
                 setting: Setting::Stdout(Output::Sink)
             }
         )
@@ -331,7 +340,10 @@ fn a_guest_has_a_standard_output(rt: HostRuntime) -> Result<(), Fail> {
         matches!(
             script.line(2),
             Line::Configure {
-                guest: 7,
+                context: Context {
+                    guest: 7,
+                    named: None
+                },
                 setting: Setting::Stdout(Output::Closed)
             }
         )
@@ -344,7 +356,10 @@ fn a_guest_has_a_standard_error(rt: HostRuntime) -> Result<(), Fail> {
     let script = set_up(&rt, rt.alloc(), "stderr 7 O")?;
     match script.line(2) {
         Line::Configure {
-            guest: 7,
+            context: Context {
+                guest: 7,
+                named: None,
+            },
             setting: Setting::Stderr(Output::Named(name)),
         } => check_name(&rt, name, b"O"),
         _ => panic!(rt; "no output"),
@@ -354,7 +369,10 @@ fn a_guest_has_a_standard_error(rt: HostRuntime) -> Result<(), Fail> {
         matches!(
             script.line(2),
             Line::Configure {
-                guest: 7,
+                context: Context {
+                    guest: 7,
+                    named: None
+                },
                 setting: Setting::Stderr(Output::Empty)
             }
         )
@@ -364,7 +382,10 @@ fn a_guest_has_a_standard_error(rt: HostRuntime) -> Result<(), Fail> {
         matches!(
             script.line(2),
             Line::Configure {
-                guest: 7,
+                context: Context {
+                    guest: 7,
+                    named: None
+                },
                 setting: Setting::Stderr(Output::Sink)
             }
         )
@@ -374,7 +395,10 @@ fn a_guest_has_a_standard_error(rt: HostRuntime) -> Result<(), Fail> {
         matches!(
             script.line(2),
             Line::Configure {
-                guest: 7,
+                context: Context {
+                    guest: 7,
+                    named: None
+                },
                 setting: Setting::Stderr(Output::Closed)
             }
         )

@@ -70,7 +70,9 @@ distinct_after names (line.Output name it) stands distinct =
       apart = λ other is. not_last other name names.inputs names.outputs is new.0 (distinct.apart other is);
     }
 distinct_after names (line.Guest guest it) stands distinct = record { inputs = distinct.inputs; outputs = distinct.outputs; apart = distinct.apart }
-distinct_after names (line.Configure guest it) stands distinct = record { inputs = distinct.inputs; outputs = distinct.outputs; apart = distinct.apart }
+distinct_after names (line.Context guest id it) stands distinct = record { inputs = distinct.inputs; outputs = distinct.outputs; apart = distinct.apart }
+distinct_after names (line.Capacity guest capacity) stands distinct = distinct
+distinct_after names (line.Configure context it) stands distinct = record { inputs = distinct.inputs; outputs = distinct.outputs; apart = distinct.apart }
 distinct_after names (line.Call guest it) stands distinct = record { inputs = distinct.inputs; outputs = distinct.outputs; apart = distinct.apart }
 distinct_after names (line.Worker it) stands distinct = distinct
 distinct_after names (line.Turn it) stands distinct = distinct
