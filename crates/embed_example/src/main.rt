@@ -48,7 +48,10 @@ impl Harness {
     fn read_once(&mut self, rt: &HostRuntime) -> Result<bool> {
         let call = EntryCall::Read { size: 4 };
         let call = Call::On { number: 0, call };
-        match self.answer(&Line::Call { context: MAIN, call })? {
+        match self.answer(&Line::Call {
+            context: MAIN,
+            call,
+        })? {
             Reply::Told(Told::Bytes(bytes)) if bytes.as_slice().is_empty() => {
                 // nothing is there yet: the worker has its turns
                 self.answer(&Line::Worker(WorkerTurn::Capture))?;

@@ -195,12 +195,7 @@ impl Contexts {
         }
     }
 
-    fn draw_named(
-        &mut self,
-        alloc: Global,
-        id: u32,
-        call: RandomCall,
-    ) -> Result<Told, OutOfMemory>
+    fn draw_named(&mut self, alloc: Global, id: u32, call: RandomCall) -> Result<Told, OutOfMemory>
         ensures told { IfOk result (λ told. told ≡ (drawn call (at_context (Some id) self.old.settings) (at_context (Some id) self.old.sources)).told) }
         ensures left { OnOk result (self.new ≡ record self.old { sources = put_context (Some id) (drawn call (at_context (Some id) self.old.settings) (at_context (Some id) self.old.sources)).left self.old.sources }) }
         ensures err { OnErr result (self.new ≡ self.old) }

@@ -9,10 +9,10 @@ ghost use Rattle.wasi_session.specs.StreamCalls.{stream_doing};
 ghost use Rattle.wasi_host.specs.declared.leaver.Leaver.TheVariants as leaver;
 ghost use Rattle.wasi_host.specs.Host.{leave_entry, the_calls, new_guest, with_context, with_capacity, configured, left_guest, settled, answer_at, answer_to, answer_by};
 
+use crate::answers::mistaken;
 use crate::clocks::{awaited, clocked};
 use crate::contexts::Contexts;
 use crate::own::Own;
-use crate::answers::mistaken;
 use crate::shared;
 use crate::streams::Streams;
 use std::alloc::Global;
@@ -21,7 +21,9 @@ use wasi_base::{OutOfMemory, TrapText};
 use wasi_cli::{Owner, StdioHandle, StdoutHandle};
 use wasi_host::{Clocks, Deed, Entry, Leaver, SharedEntry, StreamEntry};
 use wasi_reply::{Reply, Told};
-use wasi_script::{Access, Call, Context, EntryCall, ExitStatus, Input, OwnCall, Setting, Standard};
+use wasi_script::{
+    Access, Call, Context, EntryCall, ExitStatus, Input, OwnCall, Setting, Standard,
+};
 use wasi_stdin::{StdinCore, Wait};
 
 /// How many entries a guest may have unless a line says otherwise.
@@ -154,11 +156,13 @@ impl Guest {
         };
         let who = Leaver::Entry(Owner { guest, number });
         match self.own.entry(number) {
-            Some(Entry::Stream {
-                context,
-                stream,
-                entry: _,
-            }) => {
+            Some(
+                Entry::Stream {
+                    context,
+                    stream,
+                    entry: _,
+                },
+            ) => {
                 let settings = self.contexts.settings(*context);
                 match stream {
                     Standard::Input => streams.leave_input(&settings.input, who),
@@ -238,11 +242,13 @@ impl Guest {
                 let deed = shared::asked(alloc, core, call, at, entry)?;
                 self.own.act(deed)
             }
-            Some(Entry::Stream {
-                context,
-                stream,
-                entry,
-            }) => {
+            Some(
+                Entry::Stream {
+                    context,
+                    stream,
+                    entry,
+                },
+            ) => {
                 let (context, stream, entry) = (*context, *stream, *entry);
                 let deed = self.on_stream(alloc, call, at, context, stream, entry, streams)?;
                 self.own.act_apart(deed)

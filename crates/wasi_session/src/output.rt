@@ -179,13 +179,7 @@ fn polled_flush(
 }
 
 // the entry keeps the handle that the poll leaves
-fn kept(
-    context: Option<u32>,
-    to: Standard,
-    at: Owner,
-    handle: StdoutHandle,
-    told: Told,
-) -> Deed
+fn kept(context: Option<u32>, to: Standard, at: Owner, handle: StdoutHandle, told: Told) -> Deed
     ensures { result ≡ Deed.Change at.number (Entry.Stream context to (StreamEntry.Polled handle)) told }
 {
     Deed::Change {
