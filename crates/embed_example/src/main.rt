@@ -6,8 +6,14 @@ use anyhow::{Result, bail};
 use std::str::from_utf8;
 use wasi_base::MemSource;
 use wasi_reply::{Reply, Told, push_line};
-use wasi_script::{Call, EntryCall, Line, WorkerTurn};
+use wasi_script::{Call, Context, EntryCall, Line, WorkerTurn};
 use wasi_session::Session;
+
+/// The main context of guest 0.
+const MAIN: Context = Context {
+    guest: 0,
+    named: None,
+};
 
 #[derive(Drop)]
 struct Harness {
@@ -42,7 +48,10 @@ impl Harness {
     fn read_once(&mut self, rt: &HostRuntime) -> Result<bool> {
         let call = EntryCall::Read { size: 4 };
         let call = Call::On { number: 0, call };
-        match self.answer(&Line::Call { guest: 0, call })? {
+        match self.answer(&Line::Call {
+            context: MAIN,
+            call,
+        })? {
             Reply::Told(Told::Bytes(bytes)) if bytes.as_slice().is_empty() => {
                 // nothing is there yet: the worker has its turns
                 self.answer(&Line::Worker(WorkerTurn::Capture))?;
