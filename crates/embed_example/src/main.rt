@@ -5,8 +5,8 @@
 use anyhow::{Result, bail};
 use std::str::from_utf8;
 use wasi_base::MemSource;
-use wasi_reply::{Reply, Told, push_line};
-use wasi_script::{Call, EntryCall, Line, WorkerTurn};
+use wasi_reply::{Piece, Reply, Told, push_line};
+use wasi_script::{Call, EntryCall, Line, Refusal, WorkerTurn};
 use wasi_session::Session;
 
 #[derive(Drop)]
@@ -28,33 +28,70 @@ impl Harness {
     fn type_line(&mut self, rt: &HostRuntime, text: &str) -> Result<()> {
         match self.session.read_line(text.as_bytes()) {
             Ok(Some(line)) => {
-                let mut reply = Vec::new(rt.alloc());
-                push_line(rt.alloc(), &mut reply, &self.answer(&line)?)?;
-                print!(rt; "{text}: {}", from_utf8(&reply)?)?;
+                let reply = self.reply_line(rt, &line)?;
+                show_reply(rt, text, &reply)
             }
-            Ok(None) => {}
-            Err(refusal) => println!(rt; "{text}: {refusal}")?,
+            Ok(None) => Ok(()),
+            Err(refusal) => show_refusal(rt, text, refusal),
         }
-        Ok(())
+    }
+
+    /// The reply to a step, as a line of text.
+    fn reply_line(&mut self, rt: &HostRuntime, line: &Line) -> Result<Vec<u8>> {
+        let reply = self.answer(line)?;
+        let mut text = Vec::new(rt.alloc());
+        push_line(rt.alloc(), &mut text, &reply)?;
+        Ok(text)
     }
 
     /// Lets guest 0 read once: whether it may read on.
     fn read_once(&mut self, rt: &HostRuntime) -> Result<bool> {
-        let call = EntryCall::Read { size: 4 };
-        let call = Call::On { number: 0, call };
-        match self.answer(&Line::Call { guest: 0, call })? {
-            Reply::Told(Told::Bytes(bytes)) if bytes.as_slice().is_empty() => {
-                // nothing is there yet: the worker has its turns
-                self.answer(&Line::Worker(WorkerTurn::Capture))?;
-                self.answer(&Line::Worker(WorkerTurn::Deliver))?;
-            }
-            Reply::Told(Told::Bytes(bytes)) => {
-                println!(rt; "read {}", from_utf8(bytes.as_slice())?)?;
-            }
-            _ => return Ok(false),
+        let Some(bytes) = bytes_in(self.read()?) else {
+            return Ok(false);
+        };
+        if bytes.as_slice().is_empty() {
+            // nothing is there yet: the worker has its turns
+            self.work(WorkerTurn::Capture)?;
+            self.work(WorkerTurn::Deliver)?;
+        } else {
+            show_bytes(rt, bytes.as_slice())?;
         }
         Ok(true)
     }
+
+    fn read(&mut self) -> Result<Reply> {
+        let call = EntryCall::Read { size: 4 };
+        let call = Call::On { number: 0, call };
+        self.answer(&Line::Call { guest: 0, call })
+    }
+
+    fn work(&mut self, turn: WorkerTurn) -> Result<()> {
+        let _reply = self.answer(&Line::Worker(turn))?;
+        Ok(())
+    }
+}
+
+// the bytes that a read handed out
+fn bytes_in(reply: Reply) -> Option<Piece> {
+    match reply {
+        Reply::Told(Told::Bytes(bytes)) => Some(bytes),
+        _ => None,
+    }
+}
+
+fn show_reply(rt: &HostRuntime, text: &str, reply: &[u8]) -> Result<()> {
+    print!(rt; "{text}: {}", from_utf8(reply)?)?;
+    Ok(())
+}
+
+fn show_refusal(rt: &HostRuntime, text: &str, refusal: Refusal) -> Result<()> {
+    println!(rt; "{text}: {refusal}")?;
+    Ok(())
+}
+
+fn show_bytes(rt: &HostRuntime, bytes: &[u8]) -> Result<()> {
+    println!(rt; "read {}", from_utf8(bytes)?)?;
+    Ok(())
 }
 
 fn main(rt: HostRuntime) -> Result<()> {
