@@ -11,7 +11,7 @@ ghost use Rattle.wasi_script.specs.declared.lines.RandomCall.TheVariants as rand
 ghost use Rattle.wasi_script.specs.declared.lines.Line.TheVariants as line;
 ghost use Rattle.wasi_script.specs.Reads.{Reads};
 
-use crate::bytes::ByteString;
+use crate::bytes::{ByteString, read_text};
 use crate::contexts::{parse_context, parse_named};
 use crate::lines::{
     Access, Call, ClockCall, ClockSetting, Context, EntryCall, ExitStatus, Input, InputDeclaration,
@@ -22,10 +22,9 @@ use crate::name::Name;
 use crate::numbers::{parse_budget, parse_capacity, parse_exit_code, parse_guest, parse_room};
 use crate::plan::{ReadPlan, WritePlan};
 use crate::refusal::Refusal;
-use crate::text::Text;
 use crate::times::parse_time;
 use std::alloc::Global;
-use wasi_base::OutOfMemory;
+use wasi_base::{OutOfMemory, Text};
 use wasi_words::{Parts, is, is_done, only, parse_number, parse_u128};
 
 /// What a line of text is.
@@ -290,7 +289,7 @@ fn context_and_text(alloc: Global, mut words: Parts) -> Result<(Context, Text), 
 {
     let word = words.next().ok_or(Refusal::Invalid)?;
     let context = parse_context(word).ok_or(Refusal::Invalid)?;
-    let text = Text::read(alloc, only(words).ok_or(Refusal::Invalid)?)?;
+    let text = read_text(alloc, only(words).ok_or(Refusal::Invalid)?)?;
     Ok((context, text))
 }
 
@@ -315,8 +314,8 @@ fn parse_env_line(alloc: Global, mut words: Parts) -> Result<Line, Refusal>
 {
     let word = words.next().ok_or(Refusal::Invalid)?;
     let context = parse_context(word).ok_or(Refusal::Invalid)?;
-    let key = Text::read(alloc, words.next().ok_or(Refusal::Invalid)?)?;
-    let value = Text::read(alloc, only(words).ok_or(Refusal::Invalid)?)?;
+    let key = read_text(alloc, words.next().ok_or(Refusal::Invalid)?)?;
+    let value = read_text(alloc, only(words).ok_or(Refusal::Invalid)?)?;
     Ok(configure(context, Setting::Env { key, value }))
 }
 

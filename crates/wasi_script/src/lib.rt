@@ -13,7 +13,6 @@ mod numbers;
 mod parse;
 mod plan;
 mod refusal;
-mod text;
 mod times;
 
 pub use bytes::ByteString;
@@ -29,7 +28,6 @@ pub use name::Name;
 pub use parse::{Script, ScriptError, parse_script, read_after};
 pub use plan::{ReadPlan, WritePlan};
 pub use refusal::Refusal;
-pub use text::Text;
 
 #[cfg(test)]
 mod tests;

@@ -1,7 +1,7 @@
 use crate::bytes::ByteString;
 use crate::name::Name;
 use crate::plan::{ReadPlan, WritePlan};
-use crate::text::Text;
+use wasi_base::Text;
 use wasi_clocks::WallTime;
 
 /// Where a guest's standard input comes from.

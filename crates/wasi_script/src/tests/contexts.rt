@@ -2,11 +2,12 @@
 
 use super::{bad_line, check_name, parsed};
 use crate::{
-    Call, Context, EntryCall, Input, Line, Output, OwnCall, RandomCall, RandomSource, Setting, Text,
+    Call, Context, EntryCall, Input, Line, Output, OwnCall, RandomCall, RandomSource, Setting,
 };
 use std::alloc::Global;
 use std::process::Abort;
 use std::test::Fail;
+use wasi_base::Text;
 
 fn its_context(rt: &impl Abort, line: &Line) -> (u32, u32) {
     match line {

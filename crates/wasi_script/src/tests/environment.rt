@@ -1,9 +1,10 @@
 //! What a guest finds at its start, and its terminals.
 
 use super::{bad_line, check_name, parsed};
-use crate::{Call, Context, Input, Line, Output, OwnCall, Setting, Standard, Text};
+use crate::{Call, Context, Input, Line, Output, OwnCall, Setting, Standard};
 use std::process::Abort;
 use std::test::Fail;
+use wasi_base::Text;
 
 fn check_text(rt: &impl Abort, text: &Text, want: &str) {
     assert_eq!(rt; text.as_str(), want);
