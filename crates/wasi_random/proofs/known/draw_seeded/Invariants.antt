@@ -1,5 +1,5 @@
 use Rattle.std.proofs.Common.{◌≡◌, ◌≤◌, ◌-◌, vec_len, vec_capacity}
-use Rattle.wasi_random.specs.Known.{KnownGenerator, known_bytes}
+use Rattle.wasi_random.specs.Known.{known_bytes}
 use Rattle.wasi_random.specs.declared.known.KnownGenerator.TheVariants.{Seeded}
 use Rattle.wasi_random.proofs.known.draw_seeded.Given as goal
 
