@@ -1,3 +1,4 @@
+pub mod Tasks
 pub mod Reads
 pub mod WriteStreams
 pub mod Opening

@@ -1,11 +1,30 @@
 ghost use Rattle.wasi_fs_streams.specs.Directories.{StreamsShowEntries};
-ghost use Rattle.wasi_fs_streams.specs.Promises.{StreamsShowFiles};
+ghost use Rattle.wasi_fs_streams.specs.Promises.{StreamsShowFiles, ReadPathsAgree, CancelsLeaveReads, ReadsEndOnce};
 
-/// A law: over a file that nobody else changes, with no fault planned, what a read stream handed
-/// out and what stands from its present place on are the file from its first place on; where it
-/// sent Ok, it handed out all of that.
+/// A law, on both paths: over a file that nobody else changes, with no fault planned, what a read
+/// stream handed out and what stands from its present place on are the file from its first place
+/// on; where it sent Ok, it handed out all of that, and it sends no error but that of an offset past
+/// the greatest number.
 pub fn read_streams_show_files()
     ensures { StreamsShowFiles }
+{}
+
+/// A law: over a file that nobody else changes, with no fault planned, a read stream whose tasks do
+/// its reads and one whose polls do both hand out the file from their first place on and send Ok,
+/// whatever the polls, the cancels and the turns, once they ended, unless one sent an overflow.
+pub fn read_paths_agree()
+    ensures { ReadPathsAgree }
+{}
+
+/// A law: a poll of a read stream that is cancelled leaves the place as it was, hands out nothing,
+/// and no task stands after it.
+pub fn cancels_leave_reads()
+    ensures { CancelsLeaveReads }
+{}
+
+/// A law: the one result that a read stream sent stays, whatever the store.
+pub fn reads_end_once()
+    ensures { ReadsEndOnce }
 {}
 
 /// A law: a poll of a directory's stream hands out the next entries in their order, as many as it

@@ -6,12 +6,17 @@ mod fetch;
 mod laws;
 mod open;
 mod read;
+mod task;
 #[cfg(test)]
 mod tests;
 mod write;
 
 pub use directory::{DirectoryStream, directory_stream};
-pub use laws::{directory_streams_show_entries, read_streams_show_files};
+pub use laws::{
+    cancels_leave_reads, directory_streams_show_entries, read_paths_agree, read_streams_show_files,
+    reads_end_once,
+};
 pub use open::FileStreams;
-pub use read::ReadStreamProducer;
+pub use read::{ReadStreamProducer, ReadTask};
+pub use task::{Task, TaskTurn};
 pub use write::WriteStreamConsumer;

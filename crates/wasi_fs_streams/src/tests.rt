@@ -1,4 +1,5 @@
 mod directories;
+mod read_tasks;
 mod reads;
 mod writes;
 
@@ -22,6 +23,15 @@ const FILE: File = File {
     perms: FsPerms::ReadWrite,
     mode: OpenMode::WRITE,
     blocking: true,
+};
+
+// the same, with streams by tasks
+const TASK_FILE: File = File {
+    tree: 0,
+    node: 0,
+    perms: FsPerms::ReadWrite,
+    mode: OpenMode::WRITE,
+    blocking: false,
 };
 
 fn store_of(base: u64, bytes: Vec<u8>, fault: Option<IoKind>) -> MemStore {
