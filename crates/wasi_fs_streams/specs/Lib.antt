@@ -4,3 +4,4 @@ pub mod WriteStreams
 pub mod Opening
 pub mod Directories
 pub mod Promises
+pub mod WritePromises

@@ -21,4 +21,4 @@ abbrev pub write_stream : Descriptor → At → Result WriteStreamConsumer Error
 write_stream at location = then (as_file at) (λ file.
     unless (is_read_only file.perms) code.NotPermitted
     (unless (not (may_write file.mode)) code.NotPermitted
-    (Ok (writes.Open file location))))
+    (Ok (writes.Open file location None))))

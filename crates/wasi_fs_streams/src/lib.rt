@@ -13,10 +13,11 @@ mod write;
 
 pub use directory::{DirectoryStream, directory_stream};
 pub use laws::{
-    cancels_leave_reads, directory_streams_show_entries, read_paths_agree, read_streams_show_files,
-    reads_end_once,
+    cancels_leave_reads, cancels_leave_writes, directory_streams_show_entries, read_paths_agree,
+    read_streams_show_files, reads_end_once, write_paths_agree, write_streams_write_all,
+    writes_end_once,
 };
 pub use open::FileStreams;
 pub use read::{ReadStreamProducer, ReadTask};
 pub use task::{Task, TaskTurn};
-pub use write::WriteStreamConsumer;
+pub use write::{WriteStreamConsumer, WriteTask};

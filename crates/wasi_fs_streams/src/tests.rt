@@ -1,6 +1,7 @@
 mod directories;
 mod read_tasks;
 mod reads;
+mod write_tasks;
 mod writes;
 
 use std::alloc::Global;
