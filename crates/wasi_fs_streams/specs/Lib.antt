@@ -3,5 +3,7 @@ pub mod Reads
 pub mod WriteStreams
 pub mod Opening
 pub mod Directories
+pub mod DirStreams
 pub mod Promises
 pub mod WritePromises
+pub mod DirPromises

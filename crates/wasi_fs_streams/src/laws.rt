@@ -1,3 +1,4 @@
+ghost use Rattle.wasi_fs_streams.specs.DirPromises.{DirPathsAgree, CancelsKeepDirs, DirsEndOnce};
 ghost use Rattle.wasi_fs_streams.specs.Directories.{StreamsShowEntries};
 ghost use Rattle.wasi_fs_streams.specs.Promises.{StreamsShowFiles, ReadPathsAgree, CancelsLeaveReads, ReadsEndOnce};
 ghost use Rattle.wasi_fs_streams.specs.WritePromises.{StreamsWriteAll, WritePathsAgree, CancelsLeaveWrites, WritesEndOnce};
@@ -59,4 +60,21 @@ pub fn writes_end_once()
 /// may, or all that are left and the end.
 pub fn directory_streams_show_entries()
     ensures { StreamsShowEntries }
+{}
+
+/// A law: over a tree that nobody changes, with no fault planned, a directory's stream whose task
+/// gives its entries and one whose polls take them all hand out each entry, in the order of the
+/// listing, and send Ok, whatever the polls, the cancels and the turns, once they ended.
+pub fn directory_paths_agree()
+    ensures { DirPathsAgree }
+{}
+
+/// A law: a poll of a directory's stream that is cancelled keeps the task and all that it has.
+pub fn cancels_keep_directories()
+    ensures { CancelsKeepDirs }
+{}
+
+/// A law: the one result that a directory's stream sent stays.
+pub fn directories_end_once()
+    ensures { DirsEndOnce }
 {}

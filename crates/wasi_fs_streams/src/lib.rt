@@ -1,6 +1,7 @@
 //! Files and directories as streams of WASI 0.3, over any store of files.
 #![tactic(auto)]
 
+mod dir_stream;
 mod directory;
 mod fetch;
 mod laws;
@@ -11,9 +12,11 @@ mod task;
 mod tests;
 mod write;
 
+pub use dir_stream::ReadDirStream;
 pub use directory::{DirectoryStream, directory_stream};
 pub use laws::{
-    cancels_leave_reads, cancels_leave_writes, directory_streams_show_entries, read_paths_agree,
+    cancels_keep_directories, cancels_leave_reads, cancels_leave_writes, directories_end_once,
+    directory_paths_agree, directory_streams_show_entries, read_paths_agree,
     read_streams_show_files, reads_end_once, write_paths_agree, write_streams_write_all,
     writes_end_once,
 };

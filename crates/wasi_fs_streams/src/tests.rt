@@ -1,3 +1,4 @@
+mod dir_tasks;
 mod directories;
 mod read_tasks;
 mod reads;
