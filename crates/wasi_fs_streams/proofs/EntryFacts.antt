@@ -51,3 +51,18 @@ show_entries entries most Dropped items (Ended sent) p =
     (subst (λ es. length es < most) e.0 p.1, e.0, ap Ended e.1)
 show_entries entries most Cancelled items after p = absurd p
 show_entries entries most Pending items after p = absurd p
+
+-- what `next` of a listing answers
+pub next_is_first : (s t : List DirectoryEntry) (r : Option (Result DirectoryEntry ErrorCode)) (entry : DirectoryEntry) → entries_next s r t → r ≡ Some (Ok entry) → s ≡ entry ∷ t
+next_is_first s t r entry c is =
+    let P : Option (Result DirectoryEntry ErrorCode) → Type 0 = λ r. entries_next s r t in
+    sym (all_values s) ∙ ap values (subst P is c) ∙ ap (λ es. entry ∷ es) (all_values t)
+
+pub next_is_no_error : (s t : List DirectoryEntry) (r : Option (Result DirectoryEntry ErrorCode)) (code : ErrorCode) → entries_next s r t → r ≡ Some (Err code) → ⊥
+next_is_no_error s t r code c is = let P : Option (Result DirectoryEntry ErrorCode) → Type 0 = λ r. entries_next s r t in no_error s t code (subst P is c)
+
+pub next_is_none : (s t : List DirectoryEntry) (r : Option (Result DirectoryEntry ErrorCode)) → entries_next s r t → r ≡ None → s ≡ []
+next_is_none s t r c is =
+    let P : Option (Result DirectoryEntry ErrorCode) → Type 0 = λ r. entries_next s r t in
+    let none : entries_next s None t = subst P is c in
+    sym (all_values s) ∙ ap values none.0

@@ -1,2 +1,4 @@
 pub mod RunFacts
+pub mod WriteFacts
 pub mod EntryFacts
+pub mod DirFacts

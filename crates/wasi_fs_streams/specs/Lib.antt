@@ -1,5 +1,9 @@
+pub mod Tasks
 pub mod Reads
 pub mod WriteStreams
 pub mod Opening
 pub mod Directories
+pub mod DirStreams
 pub mod Promises
+pub mod WritePromises
+pub mod DirPromises

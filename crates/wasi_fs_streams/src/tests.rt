@@ -1,5 +1,8 @@
+mod dir_tasks;
 mod directories;
+mod read_tasks;
 mod reads;
+mod write_tasks;
 mod writes;
 
 use std::alloc::Global;
@@ -22,6 +25,15 @@ const FILE: File = File {
     perms: FsPerms::ReadWrite,
     mode: OpenMode::WRITE,
     blocking: true,
+};
+
+// the same, with streams by tasks
+const TASK_FILE: File = File {
+    tree: 0,
+    node: 0,
+    perms: FsPerms::ReadWrite,
+    mode: OpenMode::WRITE,
+    blocking: false,
 };
 
 fn store_of(base: u64, bytes: Vec<u8>, fault: Option<IoKind>) -> MemStore {

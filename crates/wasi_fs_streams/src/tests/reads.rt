@@ -54,7 +54,8 @@ fn a_file_is_read_to_its_end(rt: HostRuntime) -> Result<(), Fail> {
         None,
         (StreamResult::Completed, b"lo"),
     );
-    assert_eq!(&rt; stream, ReadStreamProducer::new(FILE, 5));
+    let stands = matches!(stream, ReadStreamProducer::Open { offset: 5, .. });
+    assert!(&rt; stands);
     assert_eq!(&rt; stream.result(), None);
     gives(
         &rt,

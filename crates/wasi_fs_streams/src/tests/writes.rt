@@ -1,5 +1,6 @@
 use super::{FILE, no_bytes, store_of};
 use crate::WriteStreamConsumer;
+use std::alloc::Global;
 use std::process::Abort;
 use std::test::Fail;
 use wasi_base::IoKind;
@@ -9,6 +10,7 @@ use wasi_producers::{Consumed, StreamResult};
 
 fn takes(
     rt: &impl Abort,
+    alloc: Global,
     stream: &mut WriteStreamConsumer,
     store: &mut MemStore,
     piece: &[u8],
@@ -19,7 +21,7 @@ fn takes(
         result: answer,
         taken,
     };
-    assert_eq!(rt; stream.poll_consume(store, piece, false), Ok(want));
+    assert_eq!(rt; stream.poll_consume(alloc, store, piece, false), Ok(want));
 }
 
 #[test]
@@ -30,6 +32,7 @@ fn an_offset_that_passes_the_greatest_number(rt: HostRuntime) -> Result<(), Fail
     let mut stream = WriteStreamConsumer::new(FILE, place);
     takes(
         &rt,
+        alloc,
         &mut stream,
         &mut store,
         b"abc",
@@ -42,6 +45,7 @@ fn an_offset_that_passes_the_greatest_number(rt: HostRuntime) -> Result<(), Fail
     let mut stream = WriteStreamConsumer::new(FILE, place);
     takes(
         &rt,
+        alloc,
         &mut stream,
         &mut store,
         b"a",
@@ -60,6 +64,7 @@ fn a_file_is_written_and_appended_to(rt: HostRuntime) -> Result<(), Fail> {
     let mut stream = WriteStreamConsumer::new(FILE, At::Offset(1));
     takes(
         &rt,
+        alloc,
         &mut stream,
         &mut store,
         b"a",
@@ -68,6 +73,7 @@ fn a_file_is_written_and_appended_to(rt: HostRuntime) -> Result<(), Fail> {
     );
     takes(
         &rt,
+        alloc,
         &mut stream,
         &mut store,
         b"",
@@ -76,6 +82,7 @@ fn a_file_is_written_and_appended_to(rt: HostRuntime) -> Result<(), Fail> {
     );
     takes(
         &rt,
+        alloc,
         &mut stream,
         &mut store,
         b"bc",
@@ -84,12 +91,36 @@ fn a_file_is_written_and_appended_to(rt: HostRuntime) -> Result<(), Fail> {
     );
     assert!(&rt; store.bytes.as_slice() == b"habco".as_slice());
     let mut end = WriteStreamConsumer::new(FILE, At::End);
-    takes(&rt, &mut end, &mut store, b"de", StreamResult::Completed, 2);
-    takes(&rt, &mut end, &mut store, b"f", StreamResult::Completed, 1);
+    takes(
+        &rt,
+        alloc,
+        &mut end,
+        &mut store,
+        b"de",
+        StreamResult::Completed,
+        2,
+    );
+    takes(
+        &rt,
+        alloc,
+        &mut end,
+        &mut store,
+        b"f",
+        StreamResult::Completed,
+        1,
+    );
     assert!(&rt; store.bytes.as_slice() == b"habcodef".as_slice());
     stream.close();
     assert_eq!(&rt; stream.result(), Some(Ok(())));
-    takes(&rt, &mut stream, &mut store, b"x", StreamResult::Dropped, 0);
+    takes(
+        &rt,
+        alloc,
+        &mut stream,
+        &mut store,
+        b"x",
+        StreamResult::Dropped,
+        0,
+    );
     assert!(&rt; store.bytes.as_slice() == b"habcodef".as_slice());
     Ok(())
 }
@@ -100,10 +131,26 @@ fn a_fault_ends_a_write(rt: HostRuntime) -> Result<(), Fail> {
     let mut store = store_of(0, no_bytes(alloc), Some(IoKind::BrokenPipe));
     let mut stream = WriteStreamConsumer::new(FILE, At::End);
     // also of no bytes
-    takes(&rt, &mut stream, &mut store, b"", StreamResult::Dropped, 0);
+    takes(
+        &rt,
+        alloc,
+        &mut stream,
+        &mut store,
+        b"",
+        StreamResult::Dropped,
+        0,
+    );
     assert_eq!(&rt; stream.result(), Some(Err(ErrorCode::Pipe)));
     assert_eq!(&rt; store.faults, 1);
-    takes(&rt, &mut stream, &mut store, b"a", StreamResult::Dropped, 0);
+    takes(
+        &rt,
+        alloc,
+        &mut stream,
+        &mut store,
+        b"a",
+        StreamResult::Dropped,
+        0,
+    );
     stream.close();
     assert_eq!(&rt; stream.result(), Some(Err(ErrorCode::Pipe)));
     let stream = WriteStreamConsumer::ended(ErrorCode::Io);
