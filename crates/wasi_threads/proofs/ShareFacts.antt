@@ -2,7 +2,7 @@
 use Rattle.std.proofs.Common.{◌≡◌, ℕ, ◌≤◌, List, [], ◌∷◌, ◌++◌, length, take, drop, refl, arith, ◌∙◌, sym, ap, Option, Some, None, length-append}
 use Rattle.std.specs.Prelude.{IfSome}
 use Rattle.wasi_base.specs.declared.io_kind.IoKind.{IoKind}
-use Rattle.wasi_stdin.specs.Shared.{Shared, Reading, Bytes, Ended, Fault, Skipped, Count, Past, SkipFault, skipped, skipped_in, bytes_read, reading_in, reading_of, after_read, handed_by}
+use Rattle.wasi_stdin.specs.Shared.{Shared, Reading, Bytes, Ended, Fault, Count, Past, SkipFault, skipped, skipped_in, bytes_read, reading_in, reading_of, after_read, handed_by}
 use Rattle.wasi_stdin.specs.declared.answer.Answer.{Answer}
 use Rattle.wasi_stdin.specs.declared.answer.Answer.TheVariants as code
 use Rattle.wasi_threads.proofs.BytesFacts.{read_bytes}
