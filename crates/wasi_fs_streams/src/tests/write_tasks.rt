@@ -95,13 +95,6 @@ fn a_task_keeps_its_own_piece(rt: HostRuntime) -> Result<(), Fail> {
     ];
     follows(&rt, alloc, &mut stream, &mut store, &steps);
     assert!(&rt; store.bytes.as_slice() == b"abc".as_slice());
-    let more = vec![in alloc; 7u8; 10000]?;
-    let first = stream.poll_consume(alloc, &mut store, more.as_slice(), false)?;
-    assert_eq!(&rt; first.taken, 0);
-    stream.finish_task(&mut store)?;
-    assert_eq!(&rt; store.bytes.len(), 8195);
-    let taken = stream.poll_consume(alloc, &mut store, more.as_slice(), false)?;
-    assert_eq!(&rt; taken.taken, 8192);
     Ok(())
 }
 
