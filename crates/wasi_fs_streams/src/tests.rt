@@ -1,4 +1,3 @@
-mod dir_tasks;
 mod directories;
 mod read_tasks;
 mod reads;

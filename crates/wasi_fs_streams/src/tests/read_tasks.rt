@@ -1,12 +1,11 @@
-use super::{FILE, TASK_FILE, epoch, store_of};
-use crate::{FileStreams, ReadStreamProducer, TaskTurn};
-use bitflags::Flags;
+use super::{FILE, TASK_FILE, store_of};
+use crate::{ReadStreamProducer, TaskTurn};
 use std::alloc::Global;
 use std::process::Abort;
 use std::test::Fail;
 use wasi_base::IoKind;
-use wasi_fs::{Descriptor, MemStore, Store, Tree};
-use wasi_fs_types::{DescriptorFlags, ErrorCode, OpenFlags, PathFlags};
+use wasi_fs::MemStore;
+use wasi_fs_types::ErrorCode;
 use wasi_producers::StreamResult;
 
 const NOTHING: &[u8] = b"";
@@ -19,11 +18,11 @@ enum Step {
     Turn(TaskTurn),
 }
 
-fn polls<T: Store>(
+fn polls(
     rt: &impl Abort,
     alloc: Global,
     stream: &mut ReadStreamProducer,
-    store: &mut T,
+    store: &mut MemStore,
     finish: bool,
     want: (StreamResult, &[u8]),
 ) {
@@ -36,11 +35,11 @@ fn polls<T: Store>(
     }
 }
 
-fn follows<T: Store>(
+fn follows(
     rt: &impl Abort,
     alloc: Global,
     stream: &mut ReadStreamProducer,
-    store: &mut T,
+    store: &mut MemStore,
     steps: &[Step],
 ) {
     for step in steps {
@@ -57,23 +56,10 @@ fn follows<T: Store>(
 }
 
 #[test]
-fn a_file_of_a_tree_is_read_by_tasks(rt: HostRuntime) -> Result<(), Fail> {
+fn a_file_is_read_by_tasks(rt: HostRuntime) -> Result<(), Fail> {
     let alloc = rt.alloc();
-    let mut tree = Tree::new(alloc, 0, epoch())?;
-    let added = tree.add_file("f", b"hello", epoch()).is_ok();
-    assert!(&rt; added);
-    let root = Descriptor::Dir(tree.root());
-    let opened = tree.open_at(
-        &root,
-        PathFlags::empty(),
-        "f",
-        OpenFlags::empty(),
-        DescriptorFlags::READ,
-        epoch(),
-        false,
-    );
-    let at = opened.expect(&rt, "a file");
-    let mut stream = tree.read_via_stream(&at, 1).expect(&rt, "a stream");
+    let mut store = store_of(0, Vec::from_slice(alloc, b"hello")?, None);
+    let mut stream = ReadStreamProducer::new(TASK_FILE, 1);
     let steps = [
         Step::Finish(StreamResult::Cancelled, NOTHING),
         Step::Wait(StreamResult::Pending, NOTHING),
@@ -87,7 +73,7 @@ fn a_file_of_a_tree_is_read_by_tasks(rt: HostRuntime) -> Result<(), Fail> {
         Step::Wait(StreamResult::Dropped, NOTHING),
         Step::Turn(TaskTurn::Idle),
     ];
-    follows(&rt, alloc, &mut stream, &mut tree, &steps);
+    follows(&rt, alloc, &mut stream, &mut store, &steps);
     assert_eq!(&rt; stream.result(), Some(Ok(())));
     Ok(())
 }

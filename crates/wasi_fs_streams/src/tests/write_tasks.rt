@@ -1,12 +1,11 @@
-use super::{FILE, TASK_FILE, epoch, no_bytes, store_of};
-use crate::{FileStreams, TaskTurn, WriteStreamConsumer};
-use bitflags::Flags;
+use super::{FILE, TASK_FILE, no_bytes, store_of};
+use crate::{TaskTurn, WriteStreamConsumer};
 use std::alloc::Global;
 use std::process::Abort;
 use std::test::Fail;
 use wasi_base::IoKind;
-use wasi_fs::{At, Descriptor, MemStore, Store, Tree};
-use wasi_fs_types::{DescriptorFlags, ErrorCode, OpenFlags, PathFlags};
+use wasi_fs::{At, MemStore};
+use wasi_fs_types::ErrorCode;
 use wasi_producers::{Consumed, StreamResult};
 
 // what is done with a stream, and what it is to answer
@@ -17,11 +16,11 @@ enum Step {
     Turn(TaskTurn),
 }
 
-fn polls<T: Store>(
+fn polls(
     rt: &impl Abort,
     alloc: Global,
     stream: &mut WriteStreamConsumer,
-    store: &mut T,
+    store: &mut MemStore,
     piece: &[u8],
     finish: bool,
     want: Consumed,
@@ -30,11 +29,11 @@ fn polls<T: Store>(
     assert_eq!(rt; answer, Ok(want));
 }
 
-fn follows<T: Store>(
+fn follows(
     rt: &impl Abort,
     alloc: Global,
     stream: &mut WriteStreamConsumer,
-    store: &mut T,
+    store: &mut MemStore,
     steps: &[Step],
 ) {
     for step in steps {
@@ -59,23 +58,10 @@ fn follows<T: Store>(
 }
 
 #[test]
-fn a_file_of_a_tree_is_written_by_a_task(rt: HostRuntime) -> Result<(), Fail> {
+fn a_file_is_written_by_a_task(rt: HostRuntime) -> Result<(), Fail> {
     let alloc = rt.alloc();
-    let mut tree = Tree::new(alloc, 0, epoch())?;
-    let added = tree.add_file("f", b"", epoch()).is_ok();
-    assert!(&rt; added);
-    let root = Descriptor::Dir(tree.root());
-    let opened = tree.open_at(
-        &root,
-        PathFlags::empty(),
-        "f",
-        OpenFlags::empty(),
-        DescriptorFlags::WRITE,
-        epoch(),
-        false,
-    );
-    let at = opened.expect(&rt, "a file");
-    let mut stream = tree.write_via_stream(&at, 0).expect(&rt, "a stream");
+    let mut store = store_of(0, no_bytes(alloc), None);
+    let mut stream = WriteStreamConsumer::new(TASK_FILE, At::Offset(0));
     let steps = [
         Step::Wait(b"abc", StreamResult::Pending, 0),
         Step::Turn(TaskTurn::Started),
@@ -83,11 +69,10 @@ fn a_file_of_a_tree_is_written_by_a_task(rt: HostRuntime) -> Result<(), Fail> {
         Step::Turn(TaskTurn::Done),
         Step::Wait(b"abc", StreamResult::Completed, 3),
     ];
-    follows(&rt, alloc, &mut stream, &mut tree, &steps);
+    follows(&rt, alloc, &mut stream, &mut store, &steps);
     stream.close();
     assert_eq!(&rt; stream.result(), Some(Ok(())));
-    let stat = tree.stat(&at).expect(&rt, "a stat");
-    assert_eq!(&rt; stat.size, 3);
+    assert!(&rt; store.bytes.as_slice() == b"abc".as_slice());
     Ok(())
 }
 
@@ -110,13 +95,6 @@ fn a_task_keeps_its_own_piece(rt: HostRuntime) -> Result<(), Fail> {
     ];
     follows(&rt, alloc, &mut stream, &mut store, &steps);
     assert!(&rt; store.bytes.as_slice() == b"abc".as_slice());
-    let more = vec![in alloc; 7u8; 10000]?;
-    let first = stream.poll_consume(alloc, &mut store, more.as_slice(), false)?;
-    assert_eq!(&rt; first.taken, 0);
-    stream.finish_task(&mut store)?;
-    assert_eq!(&rt; store.bytes.len(), 8195);
-    let taken = stream.poll_consume(alloc, &mut store, more.as_slice(), false)?;
-    assert_eq!(&rt; taken.taken, 8192);
     Ok(())
 }
 
