@@ -42,8 +42,9 @@ use Rattle.wasi_host.specs.declared.stream.InStream.TheVariants as in_stream
 use Rattle.wasi_host.specs.declared.stream.OutStream.{OutStream}
 use Rattle.wasi_host.specs.declared.stream.OutStream.TheVariants as out_stream
 use Rattle.wasi_host.specs.declared.deed.Deed.{Deed}
-use Rattle.wasi_host.specs.declared.deed.Deed.TheVariants.{Tell, Make, Change}
+use Rattle.wasi_host.specs.declared.deed.Deed.TheVariants.{Tell, Make, MakeEach, Change}
 use Rattle.wasi_host.specs.Deeds.{Own}
+use Rattle.wasi_host.specs.Preopens.{directories}
 use Rattle.wasi_host.specs.Clocks.{Clocks, time_told, instant_told, count_told}
 pub use Rattle.wasi_host.specs.declared.settings.Settings.{Settings}
 pub use Rattle.wasi_cli.specs.declared.owner.Owner.{Owner}
@@ -210,10 +211,11 @@ abbrev pub cwd_told : Option (List ℕ) → Told
 cwd_told None = told.Absent
 cwd_told (Some cwd) = told.Cwd cwd
 
-abbrev pub owned : Clocks → OwnCall → Settings → Own → Deed
-owned clocks (own.Exit status) settings it = Tell (told.Exit (exit_status status))
-owned clocks (own.ExitCode code) settings it = Tell (told.Exit code)
-owned clocks (own.Clock call) settings it = clocked clocks call
-owned clocks own.Environment settings it = Tell (told.Environment settings.environment)
-owned clocks own.Arguments settings it = Tell (told.Arguments settings.arguments)
-owned clocks own.InitialCwd settings it = Tell (cwd_told settings.initial_cwd)
+abbrev pub owned : Clocks → OwnCall → Option ℕ → Settings → Own → Deed
+owned clocks (own.Exit status) context settings it = Tell (told.Exit (exit_status status))
+owned clocks (own.ExitCode code) context settings it = Tell (told.Exit code)
+owned clocks (own.Clock call) context settings it = clocked clocks call
+owned clocks own.Environment context settings it = Tell (told.Environment settings.environment)
+owned clocks own.Arguments context settings it = Tell (told.Arguments settings.arguments)
+owned clocks own.InitialCwd context settings it = Tell (cwd_told settings.initial_cwd)
+owned clocks own.Directories context settings it = MakeEach (directories context settings)

@@ -8,6 +8,7 @@ use Rattle.wasi_host.specs.declared.stream.InStream.{InStream}
 use Rattle.wasi_host.specs.declared.stream.OutStream.{OutStream}
 use Rattle.wasi_host.specs.Contexts.{ByContext}
 use Rattle.wasi_host.specs.Deeds.{Own}
+use Rattle.wasi_fs.specs.Trees.{TreeState}
 use Rattle.wasi_host.specs.Clocks.{Clocks}
 use Rattle.wasi_host.specs.Random.{Sources}
 use Rattle.wasi_host.specs.Calls.{Settings}
@@ -28,10 +29,10 @@ guest_code settings own sources =
 abbrev pub named_code : {A : Type 0} → Coded A → Coded (Named A)
 named_code it = coded_list (coded× (coded_list coded_ℕ) it)
 
-abbrev pub streams_code : Coded InStream → Coded OutStream → Coded Streams
-streams_code input output =
-    code_by (Named InStream × Named OutStream) (coded× (named_code input) (named_code output))
-    (λ s. (s.inputs, s.outputs)) (λ p. record { inputs = p.0; outputs = p.1 }) (λ _. refl)
+abbrev pub streams_code : Coded InStream → Coded OutStream → Coded TreeState → Coded Streams
+streams_code input output tree =
+    code_by (Named InStream × (Named OutStream × Named TreeState)) (coded× (named_code input) (coded× (named_code output) (named_code tree)))
+    (λ s. (s.inputs, (s.outputs, s.trees))) (λ p. record { inputs = p.0; outputs = p.1.0; trees = p.1.1 }) (λ _. refl)
 
 abbrev pub host_code : Coded Shared → Coded Guest → Coded Streams → Coded Clocks → Coded Host
 host_code shared guest streams clocks =

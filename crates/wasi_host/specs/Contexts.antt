@@ -2,6 +2,7 @@
 use Rattle.std.specs.Prelude.{ℕ, Bool, true, false, cond, nat_eq, ◌||◌, List, [], ◌∷◌, ◌++◌, Option, Some, None, is_some, unwrap_or}
 use Rattle.std.specs.List.{list_any}
 use Rattle.std.specs.Map.{lookup, set_value}
+pub use Rattle.wasi_script.specs.Contexts.{same_context}
 
 -- the named ones in order of declaration
 pub record ByContext (A : Type 0) : Type 0 where
@@ -34,9 +35,3 @@ put_context (Some id) it all = cond (is_named id all) (record all { named = set_
 -- whether any has what is asked
 abbrev pub any_context : {A : Type 0} → (A → Bool) → ByContext A → Bool
 any_context test all = test all.main || list_any (λ row. test row.1) all.named
-
--- the same context
-abbrev pub same_context : Option ℕ → Option ℕ → Bool
-same_context None None = true
-same_context (Some id) (Some other) = nat_eq id other
-same_context one other = false

@@ -25,3 +25,4 @@ kind_of (entry.Own (own.Deadline it)) = 5
 kind_of (entry.Own (own.Wait it)) = 6
 kind_of (entry.Own (own.TerminalInput it)) = 7
 kind_of (entry.Own (own.TerminalOutput it)) = 8
+kind_of (entry.Descriptor context preopen it) = 9

@@ -1,12 +1,14 @@
 -- The host of a session: what each step replies, and what it leaves.
-use Rattle.std.specs.Prelude.{◌≡◌, ℕ, Bool, true, false, cond, List, [], ◌∷◌, ◌++◌, map, get_or, set, Option, Some, None, MatchOption, is_some, replicate, unwrap_or}
+use Rattle.std.specs.Prelude.{◌≡◌, ℕ, ◌+◌, nat_lt, length, Bool, true, false, cond, List, [], ◌∷◌, ◌++◌, map, get_or, set, Option, Some, None, MatchOption, is_some, replicate, unwrap_or}
 use Rattle.std.specs.Option.{option_map}
+use Rattle.std.specs.List.{list_any}
 use Rattle.std.specs.Str.{bytes_eq}
 use Rattle.std.specs.Map.{lookup, set_value}
 use Rattle.wasi_base.specs.Source.{Told, Given, Gives, gives, told_after}
 use Rattle.wasi_base.specs.Source as given
 use Rattle.wasi_base.specs.declared.sink.SinkPlan.{SinkPlan}
-use Rattle.wasi_base.specs.declared.trap_text.TrapText.TheVariants.{ResourceNotPresent}
+use Rattle.wasi_base.specs.declared.io_kind.IoKind.{IoKind}
+use Rattle.wasi_base.specs.declared.trap_text.TrapText.TheVariants.{ResourceNotPresent, ResourceWrongType}
 use Rattle.wasi_table.specs.Table.{new_table}
 use Rattle.wasi_streams.specs.Outputs.{Outlet}
 use Rattle.wasi_streams.specs.Reader.{new_reader}
@@ -39,7 +41,17 @@ use Rattle.wasi_script.specs.declared.lines.StreamTask.TheVariants as task
 use Rattle.wasi_script.specs.declared.lines.Context.{Context}
 use Rattle.wasi_script.specs.declared.lines.Line.{Line}
 use Rattle.wasi_script.specs.declared.lines.Line.TheVariants as line
+use Rattle.wasi_script.specs.declared.lines.NewNode.{NewNode}
 use Rattle.wasi_script.specs.Grammar.{Names, may_stand}
+use Rattle.wasi_script.specs.Trees.{Growing, nodes_after}
+use Rattle.wasi_clocks.specs.WallTimes.{no_time}
+use Rattle.wasi_clocks.specs.declared.wall_times.WallTime.{WallTime}
+use Rattle.wasi_fs_nodes.specs.Changes.{root_alone}
+use Rattle.wasi_fs.specs.Times.{time_of}
+use Rattle.wasi_fs.specs.Trees.{TreeState, with_nodes}
+use Rattle.wasi_fs.specs.declared.descriptor.Descriptor.{Descriptor}
+use Rattle.wasi_fs_calls.specs.declared.call.DescriptorCall.{DescriptorCall}
+use Rattle.wasi_fs_calls.specs.declared.call.PairCall.{PairCall}
 use Rattle.wasi_reply.specs.declared.reply.Told.TheVariants as told
 use Rattle.wasi_reply.specs.declared.reply.Worked.{Worked}
 use Rattle.wasi_reply.specs.declared.reply.Worked.TheVariants as worked
@@ -68,6 +80,8 @@ use Rattle.wasi_host.specs.Tasks.{Turned, input_turned, output_turned}
 use Rattle.wasi_host.specs.Clocks.{Clocks, new_clocks, clocks_after}
 use Rattle.wasi_random.specs.Known.{of_bytes, of_number}
 use Rattle.wasi_host.specs.Random.{Sources, Drawn, new_sources, with_source, drawn}
+use Rattle.wasi_host.specs.Preopens.{tree_name}
+use Rattle.wasi_host.specs.Descriptors.{filed, paired, placed}
 use Rattle.wasi_host.specs.Calls.{Settings, Owner, Doing, opened, opened_terminal, asked, called, sent, awaited, owned}
 
 -- a guest: what configuration lines say of each of its contexts, the one table of all that it owns, the random sources of
@@ -79,10 +93,10 @@ pub record Guest : Type 0 where
   pub was_called : Bool
   pub ended : Bool
 
--- a context's outputs go nowhere, its environment and its arguments are empty, it begins in no directory, it may ask for
--- 67108864 random bytes at a time, and its seed for insecure uses is 0, unless lines say otherwise
+-- a context's outputs go nowhere, its environment and its arguments are empty, it begins in no directory and is given none,
+-- it may ask for 67108864 random bytes at a time, and its seed for insecure uses is 0, unless lines say otherwise
 abbrev pub new_settings : Input → Settings
-new_settings input = record { input = input; stdout = output.Empty; stderr = output.Empty; environment = []; arguments = []; initial_cwd = None; insecure_seed = 0; most_random = 67108864 }
+new_settings input = record { input = input; stdout = output.Empty; stderr = output.Empty; environment = []; arguments = []; initial_cwd = None; insecure_seed = 0; most_random = 67108864; preopens = []; blocking = false }
 
 -- a guest has its main context, and room for 1024 entries unless a line says otherwise
 abbrev pub new_guest : Input → Guest
@@ -104,6 +118,8 @@ settings_set (setting.Env key value) settings = record settings { environment = 
 settings_set (setting.Arg text) settings = record settings { arguments = settings.arguments ++ text ∷ [] }
 settings_set (setting.Cwd text) settings = record settings { initial_cwd = Some text }
 settings_set (setting.MaxRandom size) settings = record settings { most_random = size }
+settings_set (setting.Preopen tree path perms) settings = record settings { preopens = settings.preopens ++ record { tree = tree; path = path; perms = perms } ∷ [] }
+settings_set (setting.Blocking it) settings = record settings { blocking = it }
 settings_set other settings = settings
 
 abbrev pub sources_set : Setting → Sources → Sources
@@ -117,13 +133,14 @@ configured it context guest = record guest {
   sources = put_context context (sources_set it (at_context context guest.sources)) guest.sources;
 }
 
--- ---- the declared streams with their names, each list in order of declaration
+-- ---- the declared streams and trees with their names, each list in order of declaration
 abbrev pub Named : Type 0 → Type 0
 Named A = List (List ℕ × A)
 
 pub record Streams : Type 0 where
   pub inputs : Named InStream
   pub outputs : Named OutStream
+  pub trees : Named TreeState
 
 -- the stream of a name, taken out, and what a call left of it, put back
 abbrev pub taken_out : {A : Type 0} → A → List ℕ → Named A → A
@@ -152,6 +169,23 @@ abbrev pub put_output : Output → OutStream → Streams → Streams
 put_output (output.Named name) it streams = record streams { outputs = put_back name it streams.outputs }
 put_output (output.Terminal name) it streams = record streams { outputs = put_back name it streams.outputs }
 put_output other it streams = streams
+
+-- ---- the tree of a name, and its place among them
+abbrev pub new_tree : WallTime → TreeState
+new_tree now = record { number = 0; nodes = root_alone (time_of now); planned = None; faults = 0 }
+
+abbrev pub no_tree : TreeState
+no_tree = new_tree no_time
+
+abbrev pub tree_at : List ℕ → Streams → TreeState
+tree_at name streams = taken_out no_tree name streams.trees
+
+abbrev pub put_tree : List ℕ → TreeState → Streams → Streams
+put_tree name it streams = record streams { trees = put_back name it streams.trees }
+
+abbrev pub place_of : {A : Type 0} → List ℕ → Named A → ℕ
+place_of name [] = 0
+place_of name (row ∷ rows) = cond (bytes_eq name row.0) 0 (place_of name rows + 1)
 
 -- ---- who leaves gives up its turns: of an entry that is dropped on the stream that it is on, of a guest that ends on each
 -- of its streams
@@ -189,7 +223,7 @@ abbrev pub new_host : Host
 new_host = record {
   shared = record { mode = mode.Idle; held = []; captured = None; deliveries = 0 };
   guests = replicate 64 None;
-  streams = record { inputs = []; outputs = [] };
+  streams = record { inputs = []; outputs = []; trees = [] };
   clocks = new_clocks;
 }
 
@@ -218,7 +252,9 @@ pub record CallRules : Type 0 where
   pub called : EntryCall → Option ℕ → Owner → StreamEntry → InStream → Doing InStream
   pub sent : EntryCall → Option ℕ → Standard → Owner → StreamEntry → OutStream → Doing OutStream
   pub awaited : EntryCall → Owner → OwnEntry → Deed
-  pub owned : OwnCall → Settings → Own → Deed
+  pub owned : OwnCall → Option ℕ → Settings → Own → Deed
+  pub filed : DescriptorCall → Bool → Option ℕ → ℕ → Descriptor → TreeState → Doing TreeState
+  pub paired : PairCall → Option ℕ → ℕ → Descriptor → Bool → Descriptor → TreeState → Doing TreeState
   pub drawn : RandomCall → Settings → Sources → Drawn
 
 -- those of calls, by what the clocks read, and those of the turns of tasks
@@ -228,7 +264,7 @@ pub record Rules : Type 0 where
   pub written_behind : OutStream → Turned OutStream
 
 abbrev pub the_calls : Clocks → CallRules
-the_calls clocks = record { asked = asked; called = called; sent = sent; awaited = awaited clocks; owned = owned clocks; drawn = drawn }
+the_calls clocks = record { asked = asked; called = called; sent = sent; awaited = awaited clocks; owned = owned clocks; filed = filed clocks.wall_now; paired = paired; drawn = drawn }
 
 abbrev pub the_rules : Rules
 the_rules = record { calls = the_calls; read_ahead = input_turned; written_behind = output_turned }
@@ -251,6 +287,30 @@ answer_at rules it at (Some (entry.Stream context standard.Input on)) guest shar
 answer_at rules it at (Some (entry.Stream context standard.Output on)) guest shared streams = let to = (at_context context guest.settings).stdout in on_output (rules.sent it context standard.Output at on (output_at to streams)) to guest shared streams
 answer_at rules it at (Some (entry.Stream context standard.Error on)) guest shared streams = let to = (at_context context guest.settings).stderr in on_output (rules.sent it context standard.Error at on (output_at to streams)) to guest shared streams
 answer_at rules it at (Some (entry.Own on)) guest shared streams = settled guest (act (apart (rules.awaited it at on)) guest.own) shared streams
+answer_at rules it at (Some (entry.Descriptor context preopen on)) guest shared streams = settled guest (trapped ResourceWrongType guest.own) shared streams
+
+-- a call on a descriptor, by the entry at its number, whose context says which tree it is on
+abbrev pub on_tree : Doing TreeState → List ℕ → Guest → Shared → Streams → Answered
+on_tree it name guest shared streams = settled guest (act (apart (placed (place_of name streams.trees) it.deed)) guest.own) shared (put_tree name it.left streams)
+
+abbrev pub tree_of : Option ℕ → ℕ → Guest → List ℕ
+tree_of context preopen guest = tree_name preopen (at_context context guest.settings)
+
+abbrev pub descriptor_at : CallRules → DescriptorCall → Bool → Option Entry → Guest → Shared → Streams → Answered
+descriptor_at rules it blocking None guest shared streams = settled guest (trapped ResourceNotPresent guest.own) shared streams
+descriptor_at rules it blocking (Some (entry.Descriptor context preopen at)) guest shared streams = let name = tree_of context preopen guest in on_tree (rules.filed it blocking context preopen at (tree_at name streams)) name guest shared streams
+descriptor_at rules it blocking (Some other) guest shared streams = settled guest (trapped ResourceWrongType guest.own) shared streams
+
+-- a call on two, which is on the tree of the first: its refusal comes before that of the second
+abbrev pub second_at : CallRules → PairCall → Option ℕ → ℕ → Descriptor → Option Entry → Guest → Shared → Streams → Answered
+second_at rules it context preopen at None guest shared streams = settled guest (trapped ResourceNotPresent guest.own) shared streams
+second_at rules it context preopen at (Some (entry.Descriptor other place to)) guest shared streams = let name = tree_of context preopen guest in on_tree (rules.paired it context preopen at (bytes_eq name (tree_of other place guest)) to (tree_at name streams)) name guest shared streams
+second_at rules it context preopen at (Some other) guest shared streams = settled guest (trapped ResourceWrongType guest.own) shared streams
+
+abbrev pub pair_at : CallRules → PairCall → Option Entry → Option Entry → Guest → Shared → Streams → Answered
+pair_at rules it None second guest shared streams = settled guest (trapped ResourceNotPresent guest.own) shared streams
+pair_at rules it (Some (entry.Descriptor context preopen at)) second guest shared streams = second_at rules it context preopen at second guest shared streams
+pair_at rules it (Some other) second guest shared streams = settled guest (trapped ResourceWrongType guest.own) shared streams
 
 -- a call on the random sources of a context: the guest's entries and its other contexts stay as they are
 abbrev pub on_sources : Drawn → Option ℕ → Guest → Shared → Streams → Answered
@@ -262,7 +322,9 @@ answer_to rules (call.Open it how) g context guest shared streams = settled gues
 answer_to rules (call.Terminal it) g context guest shared streams = settled guest (act (apart (opened_terminal it (at_context context guest.settings))) guest.own) shared streams
 answer_to rules (call.On number it) g context guest shared streams = answer_at rules it (record { guest = g; number = number }) (entry_at guest.own number) guest shared streams
 answer_to rules (call.Drop number) g context guest shared streams = settled guest (dropped number guest.own) shared (leave_entry (leaver.Entry (record { guest = g; number = number })) (entry_at guest.own number) guest.settings streams)
-answer_to rules (call.Own it) g context guest shared streams = settled guest (act (apart (rules.owned it (at_context context guest.settings) guest.own)) guest.own) shared streams
+answer_to rules (call.Own it) g context guest shared streams = settled guest (act (apart (rules.owned it context (at_context context guest.settings) guest.own)) guest.own) shared streams
+answer_to rules (call.Descriptor number it) g context guest shared streams = descriptor_at rules it (at_context context guest.settings).blocking (entry_at guest.own number) guest shared streams
+answer_to rules (call.Pair number to it) g context guest shared streams = pair_at rules it (entry_at guest.own number) (entry_at guest.own to) guest shared streams
 answer_to rules (call.Random it) g context guest shared streams = on_sources (rules.drawn it (at_context context guest.settings) (at_context context guest.sources)) context guest shared streams
 
 -- a guest that its reply ends passes its turns on
@@ -316,6 +378,17 @@ with_input name it host = record host { streams = record host.streams { inputs =
 abbrev pub with_output : List ℕ → OutStream → Host → Host
 with_output name it host = record host { streams = record host.streams { outputs = host.streams.outputs ++ (name, it) ∷ [] } }
 
+abbrev pub with_tree : List ℕ → Host → Host
+with_tree name host = record host { streams = record host.streams { trees = host.streams.trees ++ (name, new_tree host.clocks.wall_now) ∷ [] } }
+
+-- a node more of a tree, which has the wall clock's time
+abbrev pub with_node : List ℕ → List ℕ → NewNode → WallTime → Streams → Streams
+with_node name path it now streams = let tree = tree_at name streams in put_tree name (with_nodes tree (nodes_after tree.nodes path it now)) streams
+
+-- the fault that the next call on data of a tree meets
+abbrev pub with_fault : List ℕ → IoKind → Streams → Streams
+with_fault name kind streams = put_tree name (record (tree_at name streams) { planned = Some kind }) streams
+
 abbrev pub with_guest : ℕ → Option Guest → Host → Host
 with_guest g guest host = record host { guests = set host.guests g guest }
 
@@ -364,6 +437,9 @@ reply_by rules other host given = reply.Told told.Ok
 abbrev pub host_by : Rules → Line → Host → Given → Host
 host_by rules (line.Input name it) host given = with_input name (new_input it) host
 host_by rules (line.Output name it) host given = with_output name (new_output it) host
+host_by rules (line.Tree name) host given = with_tree name host
+host_by rules (line.Node tree path it) host given = record host { streams = with_node tree path it host.clocks.wall_now host.streams }
+host_by rules (line.TreeFault tree kind) host given = record host { streams = with_fault tree kind host.streams }
 host_by rules (line.Guest g input) host given = with_guest g (Some (new_guest input)) host
 host_by rules (line.Context g id input) host given = with_guest g (option_map (with_context id input) (guest_of host g)) host
 host_by rules (line.Capacity g capacity) host given = with_guest g (option_map (with_capacity capacity) (guest_of host g)) host
@@ -435,6 +511,15 @@ abbrev pub has_context_in : Option ℕ → Option Guest → Bool
 has_context_in context None = false
 has_context_in context (Some guest) = has_context context guest.settings
 
+abbrev pub has_preopen_in : Option ℕ → Option Guest → Bool
+has_preopen_in context None = false
+has_preopen_in context (Some guest) = nat_lt 0 (length (at_context context guest.settings).preopens)
+
+-- the nodes of all trees, while no guest was called
+abbrev pub growing_in : Bool → Streams → Option Growing
+growing_in true streams = None
+growing_in false streams = Some (map (λ row. (row.0, row.1.nodes)) streams.trees)
+
 abbrev pub names_in : {A : Type 0} → Named A → List (List ℕ)
 names_in named = map (λ row. row.0) named
 
@@ -471,6 +556,10 @@ names_of host = record {
   reads_ahead = reads_ahead_in host.streams;
   writes_behind = writes_behind_in host.streams;
   has_stdio = has_stdio_in host.streams;
+  has_preopen = λ g context. has_preopen_in context (guest_of host g);
+  trees = names_in host.streams.trees;
+  growing = growing_in (list_any was_called_in host.guests) host.streams;
+  wall = host.clocks.wall_now;
 }
 
 -- a step may stand after what the host holds

@@ -7,7 +7,9 @@ pub mod InStreams
 pub mod OutStreams
 pub mod Sources
 pub mod Tasks
+pub mod Preopens
 pub mod Calls
+pub mod Descriptors
 pub mod Host
 pub mod Run
 pub mod Sound

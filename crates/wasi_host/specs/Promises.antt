@@ -31,6 +31,7 @@ use Rattle.wasi_host.specs.declared.stream.OutStream.TheVariants as out_stream
 use Rattle.wasi_host.specs.Contexts.{ByContext, has_context, at_context, same_context}
 use Rattle.wasi_host.specs.OutStreams.{taken_of}
 use Rattle.wasi_host.specs.Deeds.{Own, entry_at, act, apart}
+use Rattle.wasi_host.specs.Preopens.{tree_name}
 use Rattle.wasi_host.specs.Calls.{Settings, Owner, sent}
 use Rattle.wasi_host.specs.Host.{Guest, Host, CallRules, host_end, new_host, step_reply, step_host, step_told, guest_of, answer, called_in, Named, taken_out, put_back}
 use Rattle.wasi_host.specs.View.{input_names, output_names, uses_input, uses_output, view, IsApart, replies_seen, outputs_seen, GuestsAreAlone}
@@ -50,6 +51,8 @@ TranscriptsFixRuns = (steps : List Line) (text : List ℕ) (before after before'
 abbrev pub entry_of : Call → Guest → Option Entry
 entry_of (call.On number it) guest = entry_at guest.own number
 entry_of (call.Drop number) guest = entry_at guest.own number
+entry_of (call.Descriptor number it) guest = entry_at guest.own number
+entry_of (call.Pair number to it) guest = entry_at guest.own number
 entry_of other guest = None
 
 -- the context that an entry was made for says which stream it is on, whichever context calls it
@@ -62,6 +65,10 @@ is_on_output (Some (entry.Stream context standard.Output it)) settings name = ou
 is_on_output (Some (entry.Stream context standard.Error it)) settings name = output_names (at_context context settings).stderr name
 is_on_output other settings name = false
 
+abbrev pub is_on_tree : Option Entry → ByContext Settings → List ℕ → Bool
+is_on_tree (Some (entry.Descriptor context preopen it)) settings name = bytes_eq (tree_name preopen (at_context context settings)) name
+is_on_tree other settings name = false
+
 abbrev pub reaches_input : Reply → Option Entry → ByContext Settings → List ℕ → Bool
 reaches_input answer on settings name = is_on_input on settings name || (ends answer && uses_input settings name)
 
@@ -73,14 +80,15 @@ is_on_shared (Some (entry.Shared it)) = true
 is_on_shared other = false
 
 -- What a call through a context leaves of all else: the other guests, the settings of all contexts of its own guest and
--- the random sources of the others, each stream but those that it reaches, the clocks, and the shared input, unless it is
--- on that.
+-- the random sources of the others, each stream but those that it reaches, each tree but the one that it is on, the clocks,
+-- and the shared input, unless it is on that.
 pub record InReach (answer : Reply) (on : Option Entry) (host after : Host) (caller : Context) (guest : Guest) : Type 0 where
   pub others : (m : ℕ) → (m ≡ caller.guest → ⊥) → guest_of after m ≡ guest_of host m
   pub settings : option_map (λ (guest : Guest). guest.settings) (guest_of after caller.guest) ≡ Some guest.settings
   pub sources : has_context caller.named guest.sources ≡ true → (context : Option ℕ) → has_context context guest.sources ≡ true → same_context context caller.named ≡ false → option_map (λ (guest : Guest). at_context context guest.sources) (guest_of after caller.guest) ≡ Some (at_context context guest.sources)
   pub inputs : (name : List ℕ) → reaches_input answer on guest.settings name ≡ false → lookup (bytes_eq name) after.streams.inputs ≡ lookup (bytes_eq name) host.streams.inputs
   pub outputs : (name : List ℕ) → reaches_output answer on guest.settings name ≡ false → lookup (bytes_eq name) after.streams.outputs ≡ lookup (bytes_eq name) host.streams.outputs
+  pub trees : (name : List ℕ) → is_on_tree on guest.settings name ≡ false → lookup (bytes_eq name) after.streams.trees ≡ lookup (bytes_eq name) host.streams.trees
   pub clocks : after.clocks ≡ host.clocks
   pub shared : is_on_shared on ≡ false → after.shared ≡ host.shared
 
@@ -100,8 +108,8 @@ InputsArePutBack = (name : List ℕ) (inputs : Named InStream) → PutsBack in_s
 abbrev pub OutputsArePutBack : Type 0
 OutputsArePutBack = (name : List ℕ) (outputs : Named OutStream) → PutsBack out_stream.Closed name outputs
 
--- ---- isolation: two scripts of which a guest sees the same give it the same replies and the same bytes in its outputs,
--- whatever their shared inputs tell
+-- ---- isolation: two scripts of which a guest sees the same give it the same replies, but for the places of trees, and the
+-- same bytes in its outputs, whatever their shared inputs tell
 pub record SeesSame (g : ℕ) (one two : List Line) (told other : Told') : Type 0 where
   pub replies : replies_seen g one told ≡ replies_seen g two other
   pub outputs : outputs_seen g one told ≡ outputs_seen g two other

@@ -234,13 +234,19 @@ CallRule (call.On n it) input s g context answer s' = EntryRule (s.standing g n)
 CallRule (call.Drop n) input s g context answer s' = DropRule (s.standing g n) s g n answer s'
 CallRule other input s g context answer s' = OtherRule s s'
 
--- the live numbers are read off the replies: a handle adds its number, and a drop that is done takes its away
+-- the live numbers are read off the replies: a handle adds its number, directories add theirs, and a drop that is done
+-- takes its away
 abbrev pub dropped_by : Call → FinSet nat_cmp → FinSet nat_cmp
 dropped_by (call.Drop n) live = remove live n
 dropped_by other live = live
 
+abbrev pub also_live : List (ℕ × List ℕ) → FinSet nat_cmp → FinSet nat_cmp
+also_live [] live = live
+also_live (row ∷ rows) live = also_live rows (insert live row.0)
+
 abbrev pub live_after : Call → Reply → FinSet nat_cmp → FinSet nat_cmp
 live_after c (reply.Handle n) live = insert live n
+live_after c (reply.Directories rows) live = also_live rows live
 live_after c (reply.Told told.Ok) live = dropped_by c live
 live_after c other live = live
 

@@ -5,7 +5,7 @@ use Rattle.std.specs.Map.{lookup}
 use Rattle.std.specs.Option.{option_map, option_and_then}
 use Rattle.std.specs.Str.{bytes_eq}
 use Rattle.wasi_base.specs.Source.{Given}
-use Rattle.wasi_base.specs.declared.trap_text.TrapText.TheVariants.{ResourceNotPresent}
+use Rattle.wasi_base.specs.declared.trap_text.TrapText.TheVariants.{ResourceNotPresent, ResourceTableFull}
 use Rattle.wasi_table.specs.Table.{new_table, is_live}
 use Rattle.wasi_cli.specs.declared.owner.Owner.{Owner}
 use Rattle.wasi_cli.specs.Turns.{Turn, IsTurn, after_free, after_end}
@@ -15,6 +15,8 @@ use Rattle.wasi_script.specs.declared.lines.Context.{Context}
 use Rattle.wasi_script.specs.declared.lines.Line.{Line}
 use Rattle.wasi_script.specs.declared.lines.Line.TheVariants as line
 use Rattle.wasi_reply.specs.declared.reply.Told.TheVariants as told
+use Rattle.wasi_fs_calls.specs.declared.call.DescriptorCall.TheVariants as on
+use Rattle.wasi_reply.specs.declared.reply.Reply.{Reply}
 use Rattle.wasi_reply.specs.declared.reply.Reply.TheVariants as reply
 use Rattle.wasi_reply.specs.Reply.{ends}
 use Rattle.wasi_host.specs.declared.stream.InStream.{InStream}
@@ -61,23 +63,31 @@ pub record StaysWithGuest (g : ℕ) (guest : Guest) (before after : Host) : Type
   pub shared : after.shared ≡ before.shared
   pub clocks : after.clocks ≡ before.clocks
 
+-- The trees stay too, unless a file was made or emptied for a descriptor for which the guest's table had no room.
+abbrev pub TreesStay : Call → Host → Host → Reply → Type 0
+TreesStay (call.Descriptor number (on.OpenAt flags path how mode)) before after (reply.Told (told.Trap ResourceTableFull)) = Unit {0}
+TreesStay it before after answer = after.streams.trees ≡ before.streams.trees
+
 -- a trap and an exit are replies to calls alone, and each stays with the guest that called
-abbrev pub StaysWithCaller : Line → Host → Host → Type 0
-StaysWithCaller (line.Call caller it) before after = IfSome (guest_of before caller.guest) (λ guest. StaysWithGuest caller.guest guest before after)
-StaysWithCaller other before after = ⊥
+abbrev pub StaysWithCaller : Line → Host → Host → Reply → Type 0
+StaysWithCaller (line.Call caller it) before after answer = IfSome (guest_of before caller.guest) (λ guest. StaysWithGuest caller.guest guest before after × TreesStay it before after answer)
+StaysWithCaller other before after answer = ⊥
 
 abbrev pub TrapsStay : Type 0
-TrapsStay = (step : Line) (host : Host) (given : Given) → ends (reply_to step host given) ≡ true → StaysWithCaller step host (host_after step host given)
+TrapsStay = (step : Line) (host : Host) (given : Given) → ends (reply_to step host given) ≡ true → StaysWithCaller step host (host_after step host given) (reply_to step host given)
 
 -- ---- a number that is not live in its caller's table is refused, which is a trap
 abbrev pub number_in : Call → Option ℕ
 number_in (call.On number it) = Some number
 number_in (call.Drop number) = Some number
+number_in (call.Descriptor number it) = Some number
+number_in (call.Pair number to it) = Some number
 number_in other = None
 
 pub record IsRefused (caller : Context) (it : Call) (guest : Guest) (host : Host) (given : Given) : Type 0 where
   pub reply_is : reply_to (line.Call caller it) host given ≡ reply.Told (told.Trap ResourceNotPresent)
   pub stays : StaysWithGuest caller.guest guest host (host_after (line.Call caller it) host given)
+  pub trees : (host_after (line.Call caller it) host given).streams.trees ≡ host.streams.trees
 
 abbrev pub DeadNumbersAreRefused : Type 0
 DeadNumbersAreRefused = (caller : Context) (number : ℕ) (it : Call) (guest : Guest) (host : Host) (given : Given) → guest_of host caller.guest ≡ Some guest → guest.ended ≡ false → number_in it ≡ Some number → is_live guest.own.table number ≡ false → IsRefused caller it guest host given

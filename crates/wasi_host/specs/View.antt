@@ -13,7 +13,10 @@ use Rattle.wasi_script.specs.declared.lines.StreamTask.{StreamTask}
 use Rattle.wasi_script.specs.declared.lines.StreamTask.TheVariants as task
 use Rattle.wasi_script.specs.declared.lines.Line.{Line}
 use Rattle.wasi_script.specs.declared.lines.Line.TheVariants as line
+use Rattle.wasi_reply.specs.declared.reply.Told.TheVariants as told
 use Rattle.wasi_reply.specs.declared.reply.Reply.{Reply}
+use Rattle.wasi_reply.specs.declared.reply.Reply.TheVariants as reply
+use Rattle.wasi_host.specs.declared.settings.Preopen.{Preopen}
 use Rattle.wasi_host.specs.declared.settings.Settings.{Settings}
 use Rattle.wasi_host.specs.Contexts.{ByContext, any_context}
 use Rattle.wasi_host.specs.OutStreams.{taken_of}
@@ -33,7 +36,12 @@ output_names other name = false
 abbrev pub setting_names : Setting → List ℕ → Bool
 setting_names (setting.Stdout it) name = output_names it name
 setting_names (setting.Stderr it) name = output_names it name
+setting_names (setting.Preopen tree path perms) name = bytes_eq tree name
 setting_names other name = false
+
+-- .. and those that a context names
+abbrev pub preopen_names : List Preopen → List ℕ → Bool
+preopen_names them name = list_any (λ (it : Preopen). bytes_eq it.tree name) them
 
 -- whether any context of a guest reads the stream of a name, and whether any writes to it
 abbrev pub uses_input : ByContext Settings → List ℕ → Bool
@@ -58,8 +66,8 @@ is_guest g k = nat_eq k g
 abbrev pub is_other : ℕ → ℕ → Bool
 is_other g k = not (nat_eq k g)
 
--- ---- what a guest sees: the lines that declare its names, the turns of their tasks, the lines that declare, configure or
--- call any of its contexts, and those that set a clock, in order
+-- ---- what a guest sees: the lines that declare its names, or fill or spoil a tree of them, the turns of their tasks, the
+-- lines that declare, configure or call any of its contexts, and those that set a clock, in order
 abbrev pub is_task_of : (List ℕ → Bool) → StreamTask → Bool
 is_task_of mine (task.Reader name) = mine name
 is_task_of mine (task.Writer name) = mine name
@@ -67,6 +75,9 @@ is_task_of mine (task.Writer name) = mine name
 abbrev pub is_seen : (List ℕ → Bool) → ℕ → Line → Bool
 is_seen mine g (line.Input name it) = mine name
 is_seen mine g (line.Output name it) = mine name
+is_seen mine g (line.Tree name) = mine name
+is_seen mine g (line.Node tree path it) = mine tree
+is_seen mine g (line.TreeFault tree kind) = mine tree
 is_seen mine g (line.Guest k it) = is_guest g k
 is_seen mine g (line.Context k id it) = is_guest g k
 is_seen mine g (line.Capacity k capacity) = is_guest g k
@@ -101,8 +112,13 @@ abbrev pub replies_to : (Line → Bool) → List Line → List Reply → List Re
 replies_to sees (step ∷ steps) (answer ∷ answers) = kept_if (sees step) answer (replies_to sees steps answers)
 replies_to sees steps answers = []
 
+-- of a hash, all but the place of its tree, which is told of all declared trees
+abbrev pub but_place : Reply → Reply
+but_place (reply.Told (told.Hash node tree)) = reply.Told (told.Hash node 0)
+but_place other = other
+
 abbrev pub replies_seen : ℕ → List Line → Told → List Reply
-replies_seen g steps told = replies_to (is_seen (names_by (is_guest g) steps) g) steps (replies steps new_host told)
+replies_seen g steps told = map but_place (replies_to (is_seen (names_by (is_guest g) steps) g) steps (replies steps new_host told))
 
 abbrev pub outputs_seen : ℕ → List Line → Told → List (List ℕ × List ℕ)
 outputs_seen g steps told =
@@ -110,7 +126,7 @@ outputs_seen g steps told =
 
 -- They are those of a session of the view alone, whatever the shared input tells there.
 pub record IsAlone (g : ℕ) (steps : List Line) (told : Told) : Type 0 where
-  pub replies : (other : Told) → replies_seen g steps told ≡ replies (view g steps) new_host other
+  pub replies : (other : Told) → replies_seen g steps told ≡ map but_place (replies (view g steps) new_host other)
   pub outputs : (other : Told) → outputs_seen g steps told ≡ outputs_seen g (view g steps) other
 
 abbrev pub GuestsAreAlone : List Line → Told → Type 0

@@ -5,6 +5,7 @@ ghost use Rattle.wasi_host.specs.Deeds.{stands_alone, goes_under, may_change, sa
 
 use wasi_cli::{StdoutHandle, TerminalInput, TerminalOutput};
 use wasi_clocks::{Deadline, Wait3};
+use wasi_fs::Descriptor;
 use wasi_script::Standard;
 use wasi_stdin::Wait;
 use wasi_table::Kinded;
@@ -59,6 +60,13 @@ pub enum Entry {
     },
     /// On no stream.
     Own(OwnEntry),
+    /// A descriptor. It is of the tree that this `preopen` line of a context gave, counted from 0
+    /// among those of the context.
+    Descriptor {
+        context: Option<u32>,
+        preopen: usize,
+        descriptor: Descriptor,
+    },
 }
 
 impl Entry {
@@ -89,6 +97,9 @@ impl Entry {
     /// The kind of a terminal as an output.
     pub const TERMINAL_OUTPUT: u32 = 8;
 
+    /// The kind of a descriptor.
+    pub const DESCRIPTOR: u32 = 9;
+
     /// Whether an entry has no parent.
     pub fn stands_alone(&self) -> bool
         ensures { result ≡ stands_alone self.now }
@@ -96,7 +107,7 @@ impl Entry {
         match self {
             Entry::Shared(SharedEntry::Pollable(_)) => false,
             Entry::Stream { entry, .. } => !matches!(entry, StreamEntry::Pollable),
-            Entry::Shared(_) | Entry::Own(_) => true,
+            Entry::Shared(_) | Entry::Own(_) | Entry::Descriptor { .. } => true,
         }
     }
 
@@ -118,7 +129,10 @@ impl Entry {
                     ..
                 }
             ),
-            Entry::Shared(_) | Entry::Stream { .. } | Entry::Own(_) => false,
+            Entry::Shared(_)
+            | Entry::Stream { .. }
+            | Entry::Own(_)
+            | Entry::Descriptor { .. } => false,
         }
     }
 
@@ -175,6 +189,7 @@ impl Kinded for Entry {
             Entry::Own(OwnEntry::Wait(_)) => Entry::WAIT,
             Entry::Own(OwnEntry::TerminalInput(_)) => Entry::TERMINAL_INPUT,
             Entry::Own(OwnEntry::TerminalOutput(_)) => Entry::TERMINAL_OUTPUT,
+            Entry::Descriptor { .. } => Entry::DESCRIPTOR,
         }
     }
 }

@@ -4,10 +4,13 @@ use Rattle.std.specs.List.{list_any, slice_split}
 use Rattle.std.specs.Option.{option_map}
 use Rattle.std.specs.Str.{bytes_eq}
 pub use Rattle.wasi_words.specs.Fields.{Form, meaning_by, lines_of}
-use Rattle.wasi_script.specs.Contexts.{named_of, context_of}
+use Rattle.wasi_script.specs.Contexts.{named_of, context_of, same_context}
 use Rattle.wasi_script.specs.Fields.{words_of, guest_of, number_of, u128_of, capacity_of, room_of, budget_of, exit_code_of, is_at_end, with_first, with_last, two_fields}
 use Rattle.wasi_script.specs.Name.{name_of}
+use Rattle.wasi_clocks.specs.WallTimes.{no_time}
+use Rattle.wasi_clocks.specs.declared.wall_times.WallTime.{WallTime}
 use Rattle.wasi_script.specs.Times.{time_of}
+use Rattle.wasi_script.specs.Trees.{Growing, with_tree, has_room, with_node}
 use Rattle.wasi_script.specs.Bytes.{byte_string_of, declared_bytes_of, text_of}
 use Rattle.wasi_script.specs.Plans.{read_plan_of, write_plan_of}
 use Rattle.wasi_base.specs.declared.source.Plan.{Plan}
@@ -21,6 +24,7 @@ use Rattle.wasi_script.specs.declared.lines.OutputDeclaration.{OutputDeclaration
 use Rattle.wasi_script.specs.declared.lines.OutputDeclaration.TheVariants as output_declaration
 use Rattle.wasi_script.specs.declared.lines.Setting.{Setting}
 use Rattle.wasi_script.specs.declared.lines.Setting.TheVariants as setting
+use Rattle.wasi_script.specs.declared.lines.NewNode.{NewNode}
 use Rattle.wasi_script.specs.declared.lines.RandomSource.{RandomSource}
 use Rattle.wasi_script.specs.declared.lines.RandomSource.TheVariants as source
 use Rattle.wasi_script.specs.declared.lines.WorkerTurn.TheVariants as turn
@@ -291,8 +295,10 @@ abbrev pub reading_of : List ℕ → Reading
 reading_of [] = Note
 reading_of (byte ∷ bytes) = cond (nat_eq byte 35) Note (step_or_invalid (line_of (words_of (byte ∷ bytes))))
 
--- What the lines so far declared: the guests, which of them were called, and their named contexts; the streams' names in order, at which of
--- them a task reads ahead or writes behind, and which are standard outputs of the host's process.
+-- What the lines so far declared: the guests, which of them were called, their named contexts, and which contexts were
+-- given directories; the streams' names in order, at which of them a task reads ahead or writes behind, and which are
+-- standard outputs of the host's process; the trees' names in order. A line may add to a tree while no guest was called; a
+-- node that it adds has the wall clock's time.
 pub record Names : Type 0 where
   pub is_guest : ℕ → Bool
   pub was_called : ℕ → Bool
@@ -302,6 +308,10 @@ pub record Names : Type 0 where
   pub reads_ahead : List ℕ → Bool
   pub writes_behind : List ℕ → Bool
   pub has_stdio : List ℕ → Bool
+  pub has_preopen : ℕ → Option ℕ → Bool
+  pub trees : List (List ℕ)
+  pub growing : Option Growing
+  pub wall : WallTime
 
 abbrev pub no_names : Names
 no_names = record {
@@ -313,15 +323,30 @@ no_names = record {
   reads_ahead = λ name. false;
   writes_behind = λ name. false;
   has_stdio = λ name. false;
+  has_preopen = λ guest context. false;
+  trees = [];
+  growing = Some [];
+  wall = no_time;
 }
 
 -- a name among others
 abbrev pub is_among : List ℕ → List (List ℕ) → Bool
 is_among name names = list_any (bytes_eq name) names
 
--- a stream may be declared under a new name, while there are fewer than 64
+-- a name is new where neither a stream nor a tree has it
+abbrev pub is_new : Names → List ℕ → Bool
+is_new names name = not (is_among name names.inputs) && (not (is_among name names.outputs) && not (is_among name names.trees))
+
+-- a stream may be declared under a new name, while there are fewer than 64, and a tree, while there are fewer than 16
 abbrev pub may_declare : Names → List ℕ → Bool
-may_declare names name = nat_lt (length names.inputs + length names.outputs) 64 && (not (is_among name names.inputs) && not (is_among name names.outputs))
+may_declare names name = nat_lt (length names.inputs + length names.outputs) 64 && is_new names name
+
+abbrev pub may_declare_tree : Names → List ℕ → Bool
+may_declare_tree names name = nat_lt (length names.trees) 16 && is_new names name
+
+-- a line adds to a tree before the first call of any guest
+abbrev pub node_stands : Names → List ℕ → List ℕ → NewNode → Bool
+node_stands names tree path it = unwrap_or (option_map (has_room tree path it names.wall) names.growing) false
 
 -- a guest's input is none that a name says, or a declared one
 abbrev pub input_stands : Names → Input → Bool
@@ -334,11 +359,14 @@ output_stands names (output.Named name) = is_among name names.outputs
 output_stands names (output.Terminal name) = names.has_stdio name
 output_stands names other = true
 
-abbrev pub setting_stands : Names → Setting → Bool
-setting_stands names (setting.Stdout it) = output_stands names it
-setting_stands names (setting.Stderr it) = output_stands names it
-setting_stands names (setting.Random from bytes) = nat_le 1 (length bytes)
-setting_stands names other = true
+-- the directories of a context come after the line that says how their streams work
+abbrev pub setting_stands : Names → Context → Setting → Bool
+setting_stands names context (setting.Stdout it) = output_stands names it
+setting_stands names context (setting.Stderr it) = output_stands names it
+setting_stands names context (setting.Random from bytes) = nat_le 1 (length bytes)
+setting_stands names context (setting.Preopen tree path perms) = is_among tree names.trees
+setting_stands names context (setting.Blocking it) = not (names.has_preopen context.guest context.named)
+setting_stands names context other = true
 
 -- a buffered output's budget is one byte at least
 abbrev pub budget_stands : OutputDeclaration → Bool
@@ -362,10 +390,13 @@ context_stands names context = unwrap_or (option_map (names.is_context context.g
 abbrev pub may_stand : Names → Line → Bool
 may_stand names (line.Input name it) = may_declare names name
 may_stand names (line.Output name it) = may_declare names name && budget_stands it
+may_stand names (line.Tree name) = may_declare_tree names name
+may_stand names (line.Node tree path it) = node_stands names tree path it
+may_stand names (line.TreeFault tree kind) = is_among tree names.trees
 may_stand names (line.Guest guest it) = nat_lt guest 64 && (not (names.is_guest guest) && input_stands names it)
 may_stand names (line.Context guest id it) = may_set_up names guest && (nat_lt id 16 && (not (names.is_context guest id) && input_stands names it))
 may_stand names (line.Capacity guest capacity) = may_set_up names guest && (nat_le 1 capacity && nat_le capacity 65536)
-may_stand names (line.Configure context it) = may_set_up names context.guest && (context_stands names context && setting_stands names it)
+may_stand names (line.Configure context it) = may_set_up names context.guest && (context_stands names context && setting_stands names context it)
 may_stand names (line.Call context it) = names.is_guest context.guest && context_stands names context
 may_stand names (line.Worker it) = true
 may_stand names (line.Turn it) = turn_stands names it
@@ -398,17 +429,33 @@ also_context guest id test number other = cond (nat_eq number guest && nat_eq ot
 abbrev pub named : List ℕ → Bool → (List ℕ → Bool) → List ℕ → Bool
 named name it test other = cond (bytes_eq other name) it (test other)
 
+-- a context was given a directory
+abbrev pub is_given : Setting → Bool
+is_given (setting.Preopen tree path perms) = true
+is_given other = false
+
+abbrev pub also_given : Context → Bool → (ℕ → Option ℕ → Bool) → ℕ → Option ℕ → Bool
+also_given context it test guest named = cond (it && (nat_eq guest context.guest && same_context named context.named)) true (test guest named)
+
+-- what a clock's line leaves of the wall clock's time
+abbrev pub wall_after : WallTime → ClockSetting → WallTime
+wall_after wall (clock_setting.Wall time) = time
+wall_after wall other = wall
+
 abbrev pub names_after : Names → Line → Names
 names_after names (line.Input name it) = record names { inputs = names.inputs ++ name ∷ []; reads_ahead = named name (is_read_ahead it) names.reads_ahead }
 names_after names (line.Output name it) = record names { outputs = names.outputs ++ name ∷ []; writes_behind = named name (is_written_behind it) names.writes_behind; has_stdio = named name (is_stdio it) names.has_stdio }
+names_after names (line.Tree name) = record names { trees = names.trees ++ name ∷ []; growing = option_map (with_tree name names.wall) names.growing }
+names_after names (line.Node tree path it) = record names { growing = option_map (with_node tree path it names.wall) names.growing }
+names_after names (line.TreeFault tree kind) = names
 names_after names (line.Guest guest it) = record names { is_guest = also guest names.is_guest }
 names_after names (line.Context guest id it) = record names { is_context = also_context guest id names.is_context }
 names_after names (line.Capacity guest capacity) = names
-names_after names (line.Configure context it) = names
-names_after names (line.Call context it) = record names { was_called = also context.guest names.was_called }
+names_after names (line.Configure context it) = record names { has_preopen = also_given context (is_given it) names.has_preopen }
+names_after names (line.Call context it) = record names { was_called = also context.guest names.was_called; growing = None }
 names_after names (line.Worker it) = names
 names_after names (line.Turn it) = names
-names_after names (line.Clock it) = names
+names_after names (line.Clock it) = record names { wall = wall_after names.wall it }
 
 -- .. and after all of some steps
 abbrev pub names_end : Names → List Line → Names

@@ -11,4 +11,5 @@ pub mod Reads
 pub mod Refused
 pub mod Rows
 pub mod Times
+pub mod Trees
 pub mod laws

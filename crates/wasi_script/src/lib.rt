@@ -21,7 +21,7 @@ pub use forms::Reading;
 pub use generated::{GeneratedSteps, MOST_GENERATED_LINES, gen_input, gen_script, gen_steps};
 pub use lines::{
     Access, Call, ClockCall, ClockSetting, Context, EntryCall, ExitStatus, Input, InputDeclaration,
-    Line, Output, OutputDeclaration, OwnCall, RandomCall, RandomSource, Setting, Standard,
+    Line, NewNode, Output, OutputDeclaration, OwnCall, RandomCall, RandomSource, Setting, Standard,
     StreamTask, WorkerTurn,
 };
 pub use name::Name;

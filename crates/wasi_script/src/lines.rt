@@ -1,8 +1,10 @@
 use crate::bytes::ByteString;
 use crate::name::Name;
 use crate::plan::{ReadPlan, WritePlan};
-use wasi_base::Text;
+use wasi_base::{IoKind, Text};
 use wasi_clocks::WallTime;
+use wasi_fs_calls::{DescriptorCall, PairCall};
+use wasi_fs_types::FsPerms;
 
 /// Where a guest's standard input comes from.
 #[derive(Drop)]
@@ -105,6 +107,26 @@ pub enum Setting {
     Arg(Text),
     /// `cwd CTX TEXT`: the directory in which it begins.
     Cwd(Text),
+    /// `preopen CTX T TEXT ro`, `preopen CTX T TEXT rw`: it is given the root of the tree of this name,
+    /// under this path.
+    Preopen {
+        tree: Name,
+        path: Text,
+        perms: FsPerms,
+    },
+    /// `blocking CTX yes`, `blocking CTX no`: whether its file streams work at once, and not by tasks.
+    Blocking(bool),
+}
+
+/// What a line adds to a tree.
+#[derive(Drop)]
+pub enum NewNode {
+    /// `treedir`
+    Directory,
+    /// `treefile`: a file of these bytes.
+    File(ByteString),
+    /// `treelink`: a link of this text.
+    Link(Text),
 }
 
 /// Which of a guest's two random sources.
@@ -219,6 +241,8 @@ pub enum OwnCall {
     Arguments,
     /// `initial-cwd`: the directory in which it begins, where it has one.
     InitialCwd,
+    /// `get-directories`: a number for each directory that it was given.
+    Directories,
 }
 
 /// What a guest calls.
@@ -238,6 +262,14 @@ pub enum Call {
     Own(OwnCall),
     /// A call on the guest's random sources.
     Random(RandomCall),
+    /// A call on the descriptor of a number.
+    Descriptor { number: u64, call: DescriptorCall },
+    /// A call on the descriptors of two numbers.
+    Pair {
+        number: u64,
+        to: u64,
+        call: PairCall,
+    },
 }
 
 /// What the worker does.
@@ -292,6 +324,22 @@ pub enum Line {
     Output {
         name: Name,
         output: OutputDeclaration,
+    },
+    /// `tree NAME`: there is a tree of files of this name, which has its root alone.
+    Tree {
+        name: Name,
+    },
+    /// `treedir T TEXT`, `treefile T TEXT BYTES`, `treelink T TEXT TEXT`: a tree has one more node, at
+    /// a path from its root.
+    Node {
+        tree: Name,
+        path: Text,
+        node: NewNode,
+    },
+    /// `treefail T KIND`: the next call that reads, writes or lists in a tree fails so.
+    TreeFault {
+        tree: Name,
+        kind: IoKind,
     },
     /// `guest G IN`: there is a guest of this number, from 0 to 63, with its main context.
     Guest {
