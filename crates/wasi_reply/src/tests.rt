@@ -82,18 +82,41 @@ fn the_environment_is_told(rt: HostRuntime) -> Result<(), Fail> {
         pairs_of(alloc, &[])?,
         pairs_of(alloc, &[("A", "")])?,
         pairs_of(alloc, &[("A=", "b,"), ("é", "ÿ")])?,
+    ];
+    let text = text_of(alloc, &replies)?;
+    assert_eq!(rt;
+        text.as_slice(),
+        b"env\nenv 41=-\nenv 413d=622c,c3a9=c3bf\n".as_slice()
+    );
+    Ok(())
+}
+
+#[test]
+fn arguments_are_told(rt: HostRuntime) -> Result<(), Fail> {
+    let alloc = rt.alloc();
+    let replies = [
         texts_of(alloc, &[])?,
         texts_of(alloc, &[""])?,
         texts_of(alloc, &["", "-", "é\n"])?,
+    ];
+    let text = text_of(alloc, &replies)?;
+    assert_eq!(rt;
+        text.as_slice(),
+        b"args\nargs -\nargs -,2d,c3a90a\n".as_slice()
+    );
+    Ok(())
+}
+
+#[test]
+fn the_first_directory_is_told(rt: HostRuntime) -> Result<(), Fail> {
+    let alloc = rt.alloc();
+    let replies = [
         cwd_of(alloc, "")?,
         cwd_of(alloc, "/a")?,
         Reply::Told(Told::Absent),
     ];
     let text = text_of(alloc, &replies)?;
-    assert_eq!(rt;
-        text.as_slice(),
-        b"env\nenv 41=-\nenv 413d=622c,c3a9=c3bf\nargs\nargs -\nargs -,2d,c3a90a\ncwd -\ncwd 2f61\nnone\n".as_slice()
-    );
+    assert_eq!(rt; text.as_slice(), b"cwd -\ncwd 2f61\nnone\n".as_slice());
     Ok(())
 }
 
