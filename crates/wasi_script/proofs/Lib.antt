@@ -2,3 +2,4 @@ pub mod DeclarationFacts
 pub mod GeneratedFacts
 pub mod PlanFacts
 pub mod ScriptFacts
+pub mod TreeFacts

@@ -1,7 +1,7 @@
-ghost use Rattle.std.specs.Prelude.{◌≡◌, ◌+◌, ◌<◌, length, slice_index_or, option_map, option_copied, option_and_then, true, false, OnOk, OnErr};
+ghost use Rattle.std.specs.Prelude.{◌≡◌, ◌+◌, ◌<◌, length, slice_index_or, option_map, option_copied, option_and_then, true, false, IfSome, OnOk, OnErr};
 ghost use Rattle.std.specs.Map.{lookup};
 ghost use Rattle.std.specs.Str.{bytes_eq};
-ghost use Rattle.wasi_script.specs.Grammar.{Names, may_stand, is_new, may_declare, may_declare_tree, node_stands, budget_stands, may_set_up, context_stands, input_stands, output_stands, setting_stands, turn_stands, names_after, no_names, is_among};
+ghost use Rattle.wasi_script.specs.Grammar.{Names, may_stand, is_new, may_declare, may_declare_tree, node_stands, budget_stands, may_set_up, context_stands, input_stands, output_stands, setting_stands, turn_stands, names_after, no_names, is_among, is_given, also_given, wall_after};
 ghost use Rattle.wasi_script.specs.Declarations.{input_flags, output_flags, context_at, given_at};
 ghost use Rattle.wasi_script.specs.Trees.{is_added, node_added};
 ghost use Rattle.wasi_script.specs.declared.lines.Line.TheVariants as line;
@@ -253,6 +253,24 @@ fn output_flags(output: &OutputDeclaration) -> StreamFlags
     }
 }
 
+// whether a setting gives its context a directory
+fn is_given(setting: &Setting) -> bool
+    ensures { result ≡ is_given setting.now }
+{
+    matches!(setting, Setting::Preopen { .. })
+}
+
+fn wall_after(wall: WallTime, setting: ClockSetting) -> WallTime
+    ensures { result ≡ wall_after wall setting }
+{
+    match setting {
+        ClockSetting::Wall(now) => now,
+        ClockSetting::Monotonic(_)
+        | ClockSetting::MonotonicResolution(_)
+        | ClockSetting::WallResolution(_) => wall,
+    }
+}
+
 // a guest's flag
 fn has_flag(flags: &[bool; 64], guest: u32) -> bool
     ensures { result ≡ slice_index_or flags.now guest false }
@@ -380,23 +398,26 @@ impl Declarations {
                 self.trees
                     .add_node(alloc, tree.as_bytes(), path, node, self.wall)?;
             }
-            Line::Configure {
-                context,
-                setting: Setting::Preopen { .. },
-            } => self.give(context),
-            Line::Clock(ClockSetting::Wall(now)) => self.wall = *now,
+            Line::Configure { context, setting } => self.configure(context, setting),
+            Line::Clock(setting) => self.wall = wall_after(self.wall, *setting),
             Line::Call { context, call: _ } => {
                 self.called[context.guest as usize] = true;
                 self.trees.close();
             }
-            Line::TreeFault { .. }
-            | Line::Capacity { .. }
-            | Line::Configure { .. }
-            | Line::Worker(_)
-            | Line::Turn(_)
-            | Line::Clock(_) => {}
+            Line::TreeFault { .. } | Line::Capacity { .. } | Line::Worker(_) | Line::Turn(_) => {}
         }
         Ok(())
+    }
+
+    // what a line says of a context
+    fn configure(&mut self, context: &Context, setting: &Setting)
+        requires guest { context.now.guest < 64 }
+        requires named { IfSome context.now.named (λ id. id < 16) }
+        ensures { names_in self.new ≡ record (names_in self.old) { has_preopen = also_given context.now (is_given setting.now) (names_in self.old).has_preopen } }
+    {
+        if is_given(setting) {
+            self.give(context);
+        }
     }
 
     // a context is given a directory

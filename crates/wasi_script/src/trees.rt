@@ -1,4 +1,5 @@
 ghost use Rattle.std.specs.Prelude.{◌≡◌, ◌∷◌, ◌++◌, [], Some, length, option_map, option_copied, option_and_then, OnOk, OnErr};
+ghost use Rattle.std.specs.List.{position};
 ghost use Rattle.std.specs.Map.{lookup};
 ghost use Rattle.std.specs.Str.{bytes_eq};
 ghost use Rattle.wasi_script.specs.Grammar.{is_among};
@@ -113,7 +114,10 @@ impl Trees {
     }
 }
 
-fn place_of(rows: &[Row], name: &[u8]) -> Option<usize> {
+// the place of the first row of a name
+fn place_of(rows: &[Row], name: &[u8]) -> Option<usize>
+    ensures { result ≡ position (λ row. bytes_eq name.now row.name) rows.now }
+{
     rows.iter().position(|row| is(name, row.name.as_bytes()))
 }
 
