@@ -3,10 +3,12 @@ ghost use Rattle.std.specs.Map.{lookup};
 ghost use Rattle.std.specs.Str.{bytes_eq};
 ghost use Rattle.wasi_script.specs.Grammar.{Names, may_stand, is_new, may_declare, may_declare_tree, node_stands, budget_stands, may_set_up, context_stands, input_stands, output_stands, setting_stands, turn_stands, names_after, no_names, is_among, is_given, also_given, wall_after};
 ghost use Rattle.wasi_script.specs.Declarations.{input_flags, output_flags, context_at, given_at};
+ghost use Rattle.wasi_fs.specs.Calls.{directory_added, file_added, link_added};
 ghost use Rattle.wasi_script.specs.Trees.{is_added, node_added};
 ghost use Rattle.wasi_script.specs.declared.lines.Line.TheVariants as line;
 ghost use Rattle.wasi_clocks.specs.declared.wall_times.WallTime.{WallTime};
 
+use crate::bytes::ByteString;
 use crate::lines::{
     ClockSetting, Context, Input, InputDeclaration, Line, NewNode, Output, OutputDeclaration,
     Setting, StreamTask,
@@ -137,7 +139,7 @@ pub trait Declared {
         ensures { result ≡ node_stands (names self.now) tree.now path.now node.now }
     {
         match self.growing(tree.as_bytes()) {
-            Some(tree) => may_add(tree, path, node),
+            Some(tree) => has_room(tree, path, node),
             None => false,
         }
     }
@@ -205,15 +207,34 @@ pub trait Declared {
     }
 }
 
-// whether a tree has room for a node
-fn may_add(tree: &Tree, path: &Text, node: &NewNode) -> bool
+// whether a tree has room for a directory, a file, a link
+fn room_for_directory(tree: &Tree, path: &str) -> bool
+    ensures { (now : WallTime) → result ≡ is_added (directory_added tree.now.nodes path.now now) }
+{
+    tree.may_add(path, 0).is_ok()
+}
+
+fn room_for_file(tree: &Tree, path: &str, bytes: &ByteString) -> bool
+    ensures { (now : WallTime) → result ≡ is_added (file_added tree.now.nodes path.now bytes.now now) }
+{
+    tree.may_add(path, bytes.len()).is_ok()
+}
+
+fn room_for_link(tree: &Tree, path: &str, text: &Text) -> bool
+    ensures { (now : WallTime) → result ≡ is_added (link_added tree.now.nodes path.now text.now now) }
+{
+    tree.may_add(path, 0).is_ok()
+}
+
+// .. for a node
+fn has_room(tree: &Tree, path: &Text, node: &NewNode) -> bool
     ensures { (now : WallTime) → result ≡ is_added (node_added tree.now.nodes path.now node.now now) }
 {
-    let size = match node {
-        NewNode::Directory | NewNode::Link(_) => 0,
-        NewNode::File(bytes) => bytes.len(),
-    };
-    tree.may_add(path.as_str(), size).is_ok()
+    match node {
+        NewNode::Directory => room_for_directory(tree, path.as_str()),
+        NewNode::File(bytes) => room_for_file(tree, path.as_str(), bytes),
+        NewNode::Link(text) => room_for_link(tree, path.as_str(), text),
+    }
 }
 
 // a named context's flag
