@@ -230,10 +230,11 @@ fn room_for_link(tree: &Tree, path: &str, text: &Text) -> bool
 fn has_room(tree: &Tree, path: &Text, node: &NewNode) -> bool
     ensures { (now : WallTime) → result ≡ is_added (node_added tree.now.nodes path.now node.now now) }
 {
+    let path = path.as_str();
     match node {
-        NewNode::Directory => room_for_directory(tree, path.as_str()),
-        NewNode::File(bytes) => room_for_file(tree, path.as_str(), bytes),
-        NewNode::Link(text) => room_for_link(tree, path.as_str(), text),
+        NewNode::Directory => room_for_directory(tree, path),
+        NewNode::File(bytes) => room_for_file(tree, path, bytes),
+        NewNode::Link(text) => room_for_link(tree, path, text),
     }
 }
 

@@ -4,4 +4,4 @@ use Rattle.wasi_script.proofs.TreeFacts.{is_allowed}
 use Rattle.wasi_script.proofs.declarations.room_for_directory.Goals as goal
 
 pub returns : goal.returns
-returns c = λ now. c.is_ok.ensures ∙ is_allowed (directory_added c.args.tree.now.nodes c.args.path.now now) c.may_add.result (c.may_add.ensures.directory now refl)
+returns c = λ now. c.is_ok.ensures.value ∙ is_allowed (directory_added c.args.tree.now.nodes c.args.path.now now) c.may_add.result (c.may_add.ensures.directory now refl)
