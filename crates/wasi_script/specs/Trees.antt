@@ -3,6 +3,9 @@ use Rattle.std.specs.Prelude.{◌≡◌, ℕ, Bool, true, false, List, [], ◌�
 use Rattle.std.specs.Map.{lookup, set_value}
 use Rattle.std.specs.Option.{option_map}
 use Rattle.std.specs.Str.{bytes_eq}
+use Rattle.wasi_base.specs.declared.out_of_memory.OutOfMemory.{OutOfMemory}
+use Rattle.wasi_base.specs.declared.trappable.TrappableError.{TrappableError}
+use Rattle.wasi_base.specs.declared.trappable.TrappableError.TheVariants as error
 use Rattle.wasi_clocks.specs.declared.wall_times.WallTime.{WallTime}
 use Rattle.wasi_fs_types.specs.declared.error_code.ErrorCode.{ErrorCode}
 use Rattle.wasi_fs_nodes.specs.Changes.{root_alone}
@@ -45,3 +48,27 @@ has_room name path it now trees = unwrap_or (option_map (λ nodes. is_added (nod
 
 abbrev pub with_node : List ℕ → List ℕ → NewNode → WallTime → Growing → Growing
 with_node name path it now trees = set_value (bytes_eq name) trees (nodes_after (nodes_at name trees) path it now)
+
+-- The trees that lines declared: the names of all, and their nodes while lines may add to them.
+pub record DeclaredTrees : Type 0 where
+  pub names : List (List ℕ)
+  pub growing : Option Growing
+
+abbrev pub no_trees : DeclaredTrees
+no_trees = record { names = []; growing = Some [] }
+
+abbrev pub tree_declared : List ℕ → WallTime → DeclaredTrees → DeclaredTrees
+tree_declared name now trees = record { names = trees.names ++ name ∷ []; growing = option_map (with_tree name now) trees.growing }
+
+abbrev pub node_declared : List ℕ → List ℕ → NewNode → WallTime → DeclaredTrees → DeclaredTrees
+node_declared name path it now trees = record { names = trees.names; growing = option_map (with_node name path it now) trees.growing }
+
+abbrev pub trees_closed : DeclaredTrees → DeclaredTrees
+trees_closed trees = record { names = trees.names; growing = None }
+
+-- a node that is refused is not added; all else that fails is want of memory
+abbrev pub done_of : Result (Unit {0}) (TrappableError ErrorCode) → Result (Unit {0}) OutOfMemory
+done_of (Ok done) = Ok done
+done_of (Err (error.Normal code)) = Ok tt
+done_of (Err (error.Trap text)) = Err (record {})
+done_of (Err error.OutOfMemory) = Err (record {})
