@@ -17,3 +17,4 @@ pub mod Buffered
 pub mod TurnEnds
 pub mod TreeTraps
 pub mod Traps
+pub mod TreesKept

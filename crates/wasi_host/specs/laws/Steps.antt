@@ -419,7 +419,7 @@ declared_in host caller stands guest there = by caller.named stands
     by None stands = refl
     by (Some id) stands = sym (ap (has_context_in (Some id)) there) ∙ stands
 
-task_trees : (rules : Rules) (it : StreamTask) (streams : Streams) → (after_task rules it streams).trees ≡ streams.trees
+pub task_trees : (rules : Rules) (it : StreamTask) (streams : Streams) → (after_task rules it streams).trees ≡ streams.trees
 task_trees rules (task.Reader name) streams = refl
 task_trees rules (task.Writer name) streams = refl
 

@@ -177,7 +177,7 @@ pair_trees clocks it (Some (entry.Stream of to on)) second guest s streams e = r
 pair_trees clocks it (Some (entry.Own on)) second guest s streams e = refl
 
 -- ---- the other calls leave the trees
-at_trees : (clocks : Clocks) (it : EntryCall) (at : Owner) (o : Option Entry) (guest : Guest) (s : Shared) (streams : Streams) → (answer_at (the_calls clocks) it at o guest s streams).streams.trees ≡ streams.trees
+pub at_trees : (clocks : Clocks) (it : EntryCall) (at : Owner) (o : Option Entry) (guest : Guest) (s : Shared) (streams : Streams) → (answer_at (the_calls clocks) it at o guest s streams).streams.trees ≡ streams.trees
 at_trees clocks it at None guest s streams = refl
 at_trees clocks it at (Some (entry.Shared e)) guest s streams = refl
 at_trees clocks it at (Some (entry.Stream of standard.Input e)) guest s streams = input_trees (at_context of guest.settings).input _ streams
