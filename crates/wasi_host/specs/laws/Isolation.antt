@@ -462,8 +462,8 @@ module _ (rules : Rules) (mine : List ℕ → Bool) (g : ℕ) where
   ends_alike : (one two : Reply) → but_place one ≡ but_place two → ends one ≡ ends two
   ends_alike one two e = sym (ends_but one) ∙ ap ends e ∙ ends_but two
 
-  ap_same : (one two : Reply) (k : ℕ) (guest : Guest) (streams : Streams) → but_place one ≡ but_place two → Same (left_streams one k guest.settings streams) (left_streams two k guest.settings streams)
-  ap_same one two k guest streams e =
+  ended_alike : (one two : Reply) (k : ℕ) (guest : Guest) (streams : Streams) → but_place one ≡ but_place two → Same (left_streams one k guest.settings streams) (left_streams two k guest.settings streams)
+  ended_alike one two k guest streams e =
       let left : Bool → Streams = λ b. cond b (leave_all (leaver.Guest k) guest.settings streams) streams in
       let same = ends_alike one two e in
       record { inputs = ap (λ b. kept mine (left b).inputs) same; outputs = ap (λ b. kept mine (left b).outputs) same; trees = ap (λ b. kept mine (left b).trees) same }
@@ -627,7 +627,7 @@ module _ (rules : Rules) (mine : List ℕ → Bool) (g : ℕ) where
         guest = told.guest;
         streams = trans_same (left_streams a.reply k guest.settings a.streams) (left_streams a.reply k guest.settings b.streams) (left_streams b.reply k guest.settings b.streams)
             (left_same (ends a.reply) (leaver.Guest k) guest a.streams b.streams fits told.streams)
-            (ap_same a.reply b.reply k guest b.streams told.reply);
+            (ended_alike a.reply b.reply k guest b.streams told.reply);
       }
 
   in_told : (clocks : Clocks) (c : Call) (caller : Context) (o : Option Guest) (s s' : Shared) (one two : Streams) → nat_eq caller.guest g ≡ true → FitsAt caller.guest o → Same one two → Tells (answer_in (rules.calls clocks) c caller o s one) (answer_in (rules.calls clocks) c caller o s' two)

@@ -624,7 +624,6 @@ at_leaves clocks it g n (Some (entry.Stream of standard.Error on)) guest s strea
 at_leaves clocks it g n (Some (entry.Own on)) guest s streams held e =
     let deed = apart ((the_calls clocks).awaited it (record { guest = g; number = n }) on) in
     left_as g guest s streams (act deed guest.own) s streams e (act_keeps deed guest.own) refl refl
-
 at_leaves clocks it g n (Some (entry.Descriptor of preopen on)) guest s streams held e = left_as g guest s streams (trapped ResourceWrongType guest.own) s streams refl refl refl refl
 
 -- a call on descriptors
