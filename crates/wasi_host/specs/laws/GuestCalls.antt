@@ -16,8 +16,6 @@ use Rattle.wasi_script.specs.declared.lines.Standard.TheVariants as standard
 use Rattle.wasi_script.specs.declared.lines.Access.{Access}
 use Rattle.wasi_script.specs.declared.lines.EntryCall.{EntryCall}
 use Rattle.wasi_script.specs.declared.lines.OwnCall.{OwnCall}
-use Rattle.wasi_fs_calls.specs.declared.call.DescriptorCall.{DescriptorCall}
-use Rattle.wasi_fs_calls.specs.declared.call.PairCall.{PairCall}
 use Rattle.wasi_script.specs.declared.lines.RandomCall.{RandomCall}
 use Rattle.wasi_script.specs.declared.lines.Call.{Call}
 use Rattle.wasi_script.specs.declared.lines.Call.TheVariants as call

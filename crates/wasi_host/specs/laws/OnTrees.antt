@@ -1,7 +1,6 @@
 -- What any call on descriptors comes to, whatever the rules are: a deed that is apart from the shared input, and another
 -- tree in place of one.
 use Rattle.std.proofs.Common.{◌≡◌, ℕ, Bool, List, Option, Some, None, refl}
-use Rattle.std.specs.Option.{option_map}
 use Rattle.wasi_base.specs.declared.trap_text.TrapText.TheVariants.{ResourceNotPresent, ResourceWrongType}
 use Rattle.wasi_fs.specs.Trees.{TreeState}
 use Rattle.wasi_fs.specs.declared.descriptor.Descriptor.{Descriptor}

@@ -27,8 +27,8 @@ use Rattle.wasi_script.specs.declared.lines.StreamTask.TheVariants as task
 use Rattle.wasi_script.specs.declared.lines.Context.{Context}
 use Rattle.wasi_script.specs.declared.lines.Line.{Line}
 use Rattle.wasi_script.specs.declared.lines.Line.TheVariants as line
-use Rattle.wasi_script.specs.Grammar.{AllStand, may_stand, may_declare, may_set_up, context_stands, budget_stands, input_stands, names_after, also_given, is_given, wall_after, no_names}
-use Rattle.wasi_script.specs.Trees.{Growing, node_added, nodes_after, nodes_at, with_tree as grown, with_node as node_grown}
+use Rattle.wasi_script.specs.Grammar.{AllStand, may_stand, may_declare, may_set_up, context_stands, budget_stands, input_stands, names_after, is_given, wall_after, no_names}
+use Rattle.wasi_script.specs.Trees.{Growing, nodes_after, nodes_at, with_tree as grown, with_node as node_grown}
 use Rattle.wasi_script.specs.declared.lines.NewNode.{NewNode}
 use Rattle.wasi_script.specs.declared.lines.Setting.{Setting}
 use Rattle.wasi_script.specs.declared.lines.Setting.TheVariants as setting
@@ -36,8 +36,6 @@ use Rattle.wasi_script.specs.declared.lines.ClockSetting.TheVariants as clock_se
 use Rattle.wasi_script.specs.declared.lines.ClockSetting.{ClockSetting}
 use Rattle.wasi_clocks.specs.declared.wall_times.WallTime.{WallTime}
 use Rattle.wasi_fs_nodes.specs.declared.node.Node.{Node}
-use Rattle.wasi_fs_nodes.specs.Changes.{root_alone}
-use Rattle.wasi_fs.specs.Times.{time_of}
 use Rattle.wasi_fs.specs.Trees.{TreeState, with_nodes}
 use Rattle.wasi_host.specs.laws.OnTrees.{descriptor_on, pair_on}
 use Rattle.wasi_reply.specs.declared.reply.Reply.{Reply}
@@ -49,13 +47,13 @@ use Rattle.wasi_host.specs.declared.entry.SharedEntry.TheVariants as on
 use Rattle.wasi_host.specs.declared.stream.InStream.{InStream}
 use Rattle.wasi_reply.specs.Reply.{ends}
 use Rattle.wasi_host.specs.declared.stream.OutStream.{OutStream}
-use Rattle.wasi_host.specs.Contexts.{ByContext, is_named, has_context, at_context, put_context, with_named, same_context}
+use Rattle.wasi_host.specs.Contexts.{ByContext, is_named, has_context, at_context, put_context, same_context}
 use Rattle.wasi_host.specs.Deeds.{entry_at}
 use Rattle.wasi_host.specs.Clocks.{Clocks, clocks_after}
 use Rattle.wasi_host.specs.Calls.{Owner, Settings, asked}
 use Rattle.wasi_host.specs.declared.leaver.Leaver.{Leaver}
 use Rattle.wasi_host.specs.declared.leaver.Leaver.TheVariants as leaver
-use Rattle.wasi_host.specs.Host.{Named, Answered, new_tree, no_tree, taken_out, put_back, tree_at, put_tree, with_node, with_fault, has_preopen_in, growing_in, the_calls, the_rules, CallRules, Rules, Guest, Streams, new_settings, with_context, with_capacity, settings_set, configured, put_input, put_output, new_input, new_output, Host, IsStep, new_guest, answer_at, answer_to, answer_by, answer_in, answer, guest_of, was_called_in, has_context_in, names_in, leave_input, leave_output, leave_entry, leave_context, leave_each, leave_all, names_of, after_task, host_after, step_reply, step_host, step_told, delivery_told, after_delivery, given_for, told_for, new_host}
+use Rattle.wasi_host.specs.Host.{Named, Answered, new_tree, no_tree, taken_out, put_back, put_tree, with_node, with_fault, has_preopen_in, growing_in, the_calls, the_rules, CallRules, Rules, Guest, Streams, new_settings, with_context, with_capacity, settings_set, configured, put_input, put_output, new_input, new_output, Host, IsStep, new_guest, answer_at, answer_to, answer_by, answer_in, answer, guest_of, was_called_in, has_context_in, names_in, leave_input, leave_output, leave_entry, leave_context, leave_each, leave_all, names_of, after_task, host_after, step_reply, step_host, step_told, delivery_told, after_delivery, given_for, told_for, new_host}
 use Rattle.wasi_host.specs.laws.Shown.{cond_same, get_set}
 use Rattle.wasi_host.specs.laws.Contexts.{named_put, named_more, asked_put, other_put, at_more, at_put, context_is}
 use Rattle.wasi_host.specs.laws.Tasks.{call_kinds, turn_kinds, call_settings, readers_more, writers_more, stdio_more}

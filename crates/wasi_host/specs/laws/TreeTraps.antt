@@ -1,8 +1,7 @@
 -- A trap or an exit leaves the trees as they were, but where an opened descriptor found no room in its guest's table.
 use Rattle.std.proofs.Common.{◌≡◌, ℕ, Bool, true, false, cond, List, Option, Some, None, Result, Ok, Err, refl, ap, sym, subst, ◌∙◌, true≢false, inl, inr}
 use Rattle.std.specs.Prelude.{nat_eq, ◌⊎◌}
-use Rattle.std.specs.Str.{bytes_eq}
-use Rattle.wasi_base.specs.declared.trap_text.TrapText.TheVariants.{ResourceNotPresent, ResourceWrongType, ResourceTableFull}
+use Rattle.wasi_base.specs.declared.trap_text.TrapText.TheVariants.{ResourceTableFull}
 use Rattle.wasi_clocks.specs.declared.wall_times.WallTime.{WallTime}
 use Rattle.wasi_table.specs.Table.{live_count, next_number, with_pushed}
 use Rattle.wasi_fs_types.specs.declared.error_code.ErrorCode.{ErrorCode}
@@ -10,7 +9,7 @@ use Rattle.wasi_fs_nodes.specs.declared.node.Node.{Node}
 use Rattle.wasi_fs.specs.Trees.{TreeState, holds}
 use Rattle.wasi_fs.specs.Opening.{opened}
 use Rattle.wasi_fs.specs.declared.descriptor.Descriptor.{Descriptor}
-use Rattle.wasi_fs_calls.specs.Rule.{Outcome, looks, changes, opens, answered, pair_answered, IsTold}
+use Rattle.wasi_fs_calls.specs.Rule.{looks, changes, opens, answered, pair_answered, IsTold}
 use Rattle.wasi_fs_calls.specs.declared.answers.DescriptorAnswer.{DescriptorAnswer}
 use Rattle.wasi_fs_calls.specs.declared.answers.DescriptorAnswer.TheVariants as answer
 use Rattle.wasi_fs_calls.specs.declared.answers.DescriptorTold.{DescriptorTold}

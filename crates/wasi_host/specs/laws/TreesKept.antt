@@ -20,7 +20,7 @@ use Rattle.wasi_fs_nodes.specs.declared.node.Kind.TheVariants as kind
 use Rattle.wasi_fs_types.specs.declared.error_code.ErrorCode.TheVariants as code
 use Rattle.wasi_fs_paths.specs.Components.{ends_with_slash}
 use Rattle.wasi_fs_paths.specs.Paths.{Place, Inside, Named as LastName, resolved}
-use Rattle.wasi_fs.specs.Calls.{added, added_at, there_or_new, directory_added}
+use Rattle.wasi_fs.specs.Calls.{added, added_at, there_or_new}
 use Rattle.wasi_fs.specs.Times.{time_of}
 use Rattle.wasi_fs.specs.Trees.{TreeState, with_nodes, is_kind, holds, IsOf, KeepsDescriptors}
 use Rattle.wasi_fs.specs.declared.descriptor.Descriptor.{Descriptor}
@@ -50,7 +50,7 @@ use Rattle.wasi_host.specs.Calls.{Doing, doing, mistaken}
 use Rattle.wasi_host.specs.Descriptors.{filing, filed, paired, descriptor_deed, seen_from}
 use Rattle.wasi_host.specs.Preopens.{same_tree}
 use Rattle.wasi_host.specs.Promises.{IsMadeOf}
-use Rattle.wasi_host.specs.Host.{Named, Guest, Streams, Host, Answered, the_calls, the_rules, put_back, new_tree, no_tree, tree_at, put_tree, tree_of, guest_of, descriptor_at, second_at, pair_at, answer_to, answer_by, answer_in, host_after}
+use Rattle.wasi_host.specs.Host.{Named, Guest, Streams, Host, Answered, the_calls, the_rules, new_tree, no_tree, tree_at, put_tree, tree_of, guest_of, descriptor_at, second_at, pair_at, answer_to, answer_by, answer_in, host_after}
 use Rattle.wasi_host.specs.laws.Reach.{found_still, left_trees}
 use Rattle.wasi_host.specs.laws.Steps.{first_of, second_of, task_trees}
 use Rattle.wasi_host.specs.laws.TreeTraps.{at_trees, entry_trees}
