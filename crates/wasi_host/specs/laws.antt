@@ -1,5 +1,6 @@
 pub mod Contexts
 pub mod Entries
+pub mod OnTrees
 pub mod Shown
 pub mod SharedCalls
 pub mod GuestCalls
@@ -14,4 +15,6 @@ pub mod Walk
 pub mod Filled
 pub mod Buffered
 pub mod TurnEnds
+pub mod TreeTraps
 pub mod Traps
+pub mod TreesKept
