@@ -1,5 +1,5 @@
 -- The host of a session: what each step replies, and what it leaves.
-use Rattle.std.specs.Prelude.{◌≡◌, ℕ, ◌+◌, nat_lt, length, Bool, true, false, cond, List, [], ◌∷◌, ◌++◌, map, get_or, set, Option, Some, None, MatchOption, is_some, replicate, unwrap_or}
+use Rattle.std.specs.Prelude.{◌≡◌, ℕ, ◌+◌, nat_lt, length, Bool, true, false, ◌&&◌, cond, List, [], ◌∷◌, ◌++◌, map, get_or, set, Option, Some, None, MatchOption, is_some, replicate, unwrap_or}
 use Rattle.std.specs.Option.{option_map}
 use Rattle.std.specs.List.{list_any}
 use Rattle.std.specs.Str.{bytes_eq}
@@ -80,7 +80,7 @@ use Rattle.wasi_host.specs.Tasks.{Turned, input_turned, output_turned}
 use Rattle.wasi_host.specs.Clocks.{Clocks, new_clocks, clocks_after}
 use Rattle.wasi_random.specs.Known.{of_bytes, of_number}
 use Rattle.wasi_host.specs.Random.{Sources, Drawn, new_sources, with_source, drawn}
-use Rattle.wasi_host.specs.Preopens.{tree_name}
+use Rattle.wasi_host.specs.Preopens.{tree_name, same_tree}
 use Rattle.wasi_host.specs.Descriptors.{filed, paired, placed}
 use Rattle.wasi_host.specs.Calls.{Settings, Owner, Doing, opened, opened_terminal, asked, called, sent, awaited, owned}
 
@@ -177,15 +177,21 @@ new_tree now = record { number = 0; nodes = root_alone (time_of now); planned = 
 abbrev pub no_tree : TreeState
 no_tree = new_tree no_time
 
-abbrev pub tree_at : List ℕ → Streams → TreeState
-tree_at name streams = taken_out no_tree name streams.trees
+abbrev pub tree_at : Option (List ℕ) → Streams → TreeState
+tree_at None streams = no_tree
+tree_at (Some name) streams = taken_out no_tree name streams.trees
 
-abbrev pub put_tree : List ℕ → TreeState → Streams → Streams
-put_tree name it streams = record streams { trees = put_back name it streams.trees }
+abbrev pub put_tree : Option (List ℕ) → TreeState → Streams → Streams
+put_tree None it streams = streams
+put_tree (Some name) it streams = record streams { trees = put_back name it streams.trees }
 
 abbrev pub place_of : {A : Type 0} → List ℕ → Named A → ℕ
 place_of name [] = 0
 place_of name (row ∷ rows) = cond (bytes_eq name row.0) 0 (place_of name rows + 1)
+
+abbrev pub tree_place : Option (List ℕ) → Streams → ℕ
+tree_place None streams = 0
+tree_place (Some name) streams = place_of name streams.trees
 
 -- ---- who leaves gives up its turns: of an entry that is dropped on the stream that it is on, of a guest that ends on each
 -- of its streams
@@ -290,10 +296,10 @@ answer_at rules it at (Some (entry.Own on)) guest shared streams = settled guest
 answer_at rules it at (Some (entry.Descriptor context preopen on)) guest shared streams = settled guest (trapped ResourceWrongType guest.own) shared streams
 
 -- a call on a descriptor, by the entry at its number, whose context says which tree it is on
-abbrev pub on_tree : Doing TreeState → List ℕ → Guest → Shared → Streams → Answered
-on_tree it name guest shared streams = settled guest (act (apart (placed (place_of name streams.trees) it.deed)) guest.own) shared (put_tree name it.left streams)
+abbrev pub on_tree : Doing TreeState → Option (List ℕ) → Guest → Shared → Streams → Answered
+on_tree it name guest shared streams = settled guest (act (apart (placed (tree_place name streams) it.deed)) guest.own) shared (put_tree name it.left streams)
 
-abbrev pub tree_of : Option ℕ → ℕ → Guest → List ℕ
+abbrev pub tree_of : Option ℕ → ℕ → Guest → Option (List ℕ)
 tree_of context preopen guest = tree_name preopen (at_context context guest.settings)
 
 abbrev pub descriptor_at : CallRules → DescriptorCall → Bool → Option Entry → Guest → Shared → Streams → Answered
@@ -304,7 +310,7 @@ descriptor_at rules it blocking (Some other) guest shared streams = settled gues
 -- a call on two, which is on the tree of the first: its refusal comes before that of the second
 abbrev pub second_at : CallRules → PairCall → Option ℕ → ℕ → Descriptor → Option Entry → Guest → Shared → Streams → Answered
 second_at rules it context preopen at None guest shared streams = settled guest (trapped ResourceNotPresent guest.own) shared streams
-second_at rules it context preopen at (Some (entry.Descriptor other place to)) guest shared streams = let name = tree_of context preopen guest in on_tree (rules.paired it context preopen at (bytes_eq name (tree_of other place guest)) to (tree_at name streams)) name guest shared streams
+second_at rules it context preopen at (Some (entry.Descriptor other place to)) guest shared streams = let name = tree_of context preopen guest in on_tree (rules.paired it context preopen at (same_tree name (tree_of other place guest)) to (tree_at name streams)) name guest shared streams
 second_at rules it context preopen at (Some other) guest shared streams = settled guest (trapped ResourceWrongType guest.own) shared streams
 
 abbrev pub pair_at : CallRules → PairCall → Option Entry → Option Entry → Guest → Shared → Streams → Answered
@@ -383,11 +389,11 @@ with_tree name host = record host { streams = record host.streams { trees = host
 
 -- a node more of a tree, which has the wall clock's time
 abbrev pub with_node : List ℕ → List ℕ → NewNode → WallTime → Streams → Streams
-with_node name path it now streams = let tree = tree_at name streams in put_tree name (with_nodes tree (nodes_after tree.nodes path it now)) streams
+with_node name path it now streams = let tree = tree_at (Some name) streams in put_tree (Some name) (with_nodes tree (nodes_after tree.nodes path it now)) streams
 
 -- the fault that the next call on data of a tree meets
 abbrev pub with_fault : List ℕ → IoKind → Streams → Streams
-with_fault name kind streams = put_tree name (record (tree_at name streams) { planned = Some kind }) streams
+with_fault name kind streams = put_tree (Some name) (record (tree_at (Some name) streams) { planned = Some kind }) streams
 
 abbrev pub with_guest : ℕ → Option Guest → Host → Host
 with_guest g guest host = record host { guests = set host.guests g guest }
@@ -513,7 +519,7 @@ has_context_in context (Some guest) = has_context context guest.settings
 
 abbrev pub has_preopen_in : Option ℕ → Option Guest → Bool
 has_preopen_in context None = false
-has_preopen_in context (Some guest) = nat_lt 0 (length (at_context context guest.settings).preopens)
+has_preopen_in context (Some guest) = has_context context guest.settings && nat_lt 0 (length (at_context context guest.settings).preopens)
 
 -- the nodes of all trees, while no guest was called
 abbrev pub growing_in : Bool → Streams → Option Growing

@@ -1,5 +1,7 @@
 -- The directories that a context is given, and the trees that they are the roots of.
-use Rattle.std.specs.Prelude.{ℕ, ◌+◌, Bool, cond, List, [], ◌∷◌, map, get_or, Option}
+use Rattle.std.specs.Prelude.{ℕ, ◌+◌, Bool, false, cond, List, [], ◌∷◌, Option, Some, slice_get}
+use Rattle.std.specs.Option.{option_map}
+use Rattle.std.specs.Str.{bytes_eq}
 use Rattle.wasi_fs.specs.Flags.{is_read_only}
 use Rattle.wasi_fs.specs.declared.descriptor.Descriptor.{Descriptor}
 use Rattle.wasi_fs.specs.declared.descriptor.Descriptor.TheVariants as descriptor
@@ -21,6 +23,10 @@ entries_from context blocking place (it ∷ rest) = (entry.Descriptor context pl
 abbrev pub directories : Option ℕ → Settings → List (Entry × List ℕ)
 directories context settings = entries_from context settings.blocking 0 settings.preopens
 
--- the name of the tree that such an entry is on
-abbrev pub tree_name : ℕ → Settings → List ℕ
-tree_name place settings = get_or (map (λ (it : Preopen). it.tree) settings.preopens) place []
+-- the name of the tree that such an entry is on; there is none where the context was not given so many directories
+abbrev pub tree_name : ℕ → Settings → Option (List ℕ)
+tree_name place settings = option_map (λ (it : Preopen). it.tree) (slice_get settings.preopens place)
+
+abbrev pub same_tree : Option (List ℕ) → Option (List ℕ) → Bool
+same_tree (Some name) (Some other) = bytes_eq name other
+same_tree one other = false

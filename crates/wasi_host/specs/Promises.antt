@@ -31,10 +31,11 @@ use Rattle.wasi_host.specs.declared.stream.OutStream.TheVariants as out_stream
 use Rattle.wasi_host.specs.Contexts.{ByContext, has_context, at_context, same_context}
 use Rattle.wasi_host.specs.OutStreams.{taken_of}
 use Rattle.wasi_host.specs.Deeds.{Own, entry_at, act, apart}
+use Rattle.wasi_fs.specs.Trees.{TreeState}
 use Rattle.wasi_host.specs.Preopens.{tree_name}
 use Rattle.wasi_host.specs.Calls.{Settings, Owner, sent}
-use Rattle.wasi_host.specs.Host.{Guest, Host, CallRules, host_end, new_host, step_reply, step_host, step_told, guest_of, answer, called_in, Named, taken_out, put_back}
-use Rattle.wasi_host.specs.View.{input_names, output_names, uses_input, uses_output, view, IsApart, replies_seen, outputs_seen, GuestsAreAlone}
+use Rattle.wasi_host.specs.Host.{Guest, Host, CallRules, no_tree, host_end, new_host, step_reply, step_host, step_told, guest_of, answer, called_in, Named, taken_out, put_back}
+use Rattle.wasi_host.specs.View.{input_names, output_names, tree_names, uses_input, uses_output, view, IsApart, replies_seen, outputs_seen, GuestsAreAlone}
 use Rattle.wasi_host.specs.Transcript.{ShowsRun, transcript, told_after_run, outputs_of}
 
 abbrev pub HostRuns : Type 0
@@ -66,7 +67,7 @@ is_on_output (Some (entry.Stream context standard.Error it)) settings name = out
 is_on_output other settings name = false
 
 abbrev pub is_on_tree : Option Entry → ByContext Settings → List ℕ → Bool
-is_on_tree (Some (entry.Descriptor context preopen it)) settings name = bytes_eq (tree_name preopen (at_context context settings)) name
+is_on_tree (Some (entry.Descriptor context preopen it)) settings name = tree_names (tree_name preopen (at_context context settings)) name
 is_on_tree other settings name = false
 
 abbrev pub reaches_input : Reply → Option Entry → ByContext Settings → List ℕ → Bool
@@ -107,6 +108,9 @@ InputsArePutBack = (name : List ℕ) (inputs : Named InStream) → PutsBack in_s
 
 abbrev pub OutputsArePutBack : Type 0
 OutputsArePutBack = (name : List ℕ) (outputs : Named OutStream) → PutsBack out_stream.Closed name outputs
+
+abbrev pub TreesArePutBack : Type 0
+TreesArePutBack = (name : List ℕ) (trees : Named TreeState) → PutsBack no_tree name trees
 
 -- ---- isolation: two scripts of which a guest sees the same give it the same replies, but for the places of trees, and the
 -- same bytes in its outputs, whatever their shared inputs tell

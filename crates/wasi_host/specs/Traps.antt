@@ -15,7 +15,10 @@ use Rattle.wasi_script.specs.declared.lines.Context.{Context}
 use Rattle.wasi_script.specs.declared.lines.Line.{Line}
 use Rattle.wasi_script.specs.declared.lines.Line.TheVariants as line
 use Rattle.wasi_reply.specs.declared.reply.Told.TheVariants as told
+use Rattle.wasi_fs.specs.declared.descriptor.Descriptor.{Descriptor}
 use Rattle.wasi_fs_calls.specs.declared.call.DescriptorCall.TheVariants as on
+use Rattle.wasi_fs_calls.specs.declared.call.PairCall.{PairCall}
+use Rattle.wasi_host.specs.declared.entry.Entry.TheVariants as entry
 use Rattle.wasi_reply.specs.declared.reply.Reply.{Reply}
 use Rattle.wasi_reply.specs.declared.reply.Reply.TheVariants as reply
 use Rattle.wasi_reply.specs.Reply.{ends}
@@ -24,6 +27,7 @@ use Rattle.wasi_host.specs.declared.stream.InStream.TheVariants as in_stream
 use Rattle.wasi_host.specs.declared.stream.OutStream.{OutStream}
 use Rattle.wasi_host.specs.declared.stream.OutStream.TheVariants as out_stream
 use Rattle.wasi_host.specs.Turns.{untaken}
+use Rattle.wasi_host.specs.Deeds.{entry_at}
 use Rattle.wasi_host.specs.Host.{Guest, Host, guest_of, reply_to, host_after}
 use Rattle.wasi_host.specs.View.{uses_input, uses_output}
 
@@ -91,6 +95,10 @@ pub record IsRefused (caller : Context) (it : Call) (guest : Guest) (host : Host
 
 abbrev pub DeadNumbersAreRefused : Type 0
 DeadNumbersAreRefused = (caller : Context) (number : ℕ) (it : Call) (guest : Guest) (host : Host) (given : Given) → guest_of host caller.guest ≡ Some guest → guest.ended ≡ false → number_in it ≡ Some number → is_live guest.own.table number ≡ false → IsRefused caller it guest host given
+
+-- of a call on two descriptors the second number is, once the first one is that of a descriptor
+abbrev pub DeadSecondsAreRefused : Type 0
+DeadSecondsAreRefused = (caller : Context) (number to : ℕ) (it : PairCall) (context : Option ℕ) (preopen : ℕ) (at : Descriptor) (guest : Guest) (host : Host) (given : Given) → guest_of host caller.guest ≡ Some guest → guest.ended ≡ false → entry_at guest.own number ≡ Some (entry.Descriptor context preopen at) → is_live guest.own.table to ≡ false → IsRefused caller (call.Pair number to it) guest host given
 
 -- ---- how turns pass at the end of a guest: as if its entries that have or wait for the turn went one by one, in any order
 abbrev pub each_freed : ℕ → List ℕ → Turn → Turn

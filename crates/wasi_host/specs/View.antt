@@ -1,5 +1,5 @@
 -- What a guest sees of a session, and that its replies and its outputs depend on that alone.
-use Rattle.std.specs.Prelude.{◌≡◌, ℕ, Bool, true, false, not, ◌&&◌, ◌||◌, nat_eq, List, [], ◌∷◌, map, filter}
+use Rattle.std.specs.Prelude.{◌≡◌, ℕ, Bool, true, false, not, ◌&&◌, ◌||◌, nat_eq, List, [], ◌∷◌, Option, Some, None, map, filter}
 use Rattle.std.specs.List.{list_any}
 use Rattle.std.specs.Str.{bytes_eq}
 use Rattle.wasi_base.specs.Source.{Told}
@@ -16,7 +16,6 @@ use Rattle.wasi_script.specs.declared.lines.Line.TheVariants as line
 use Rattle.wasi_reply.specs.declared.reply.Told.TheVariants as told
 use Rattle.wasi_reply.specs.declared.reply.Reply.{Reply}
 use Rattle.wasi_reply.specs.declared.reply.Reply.TheVariants as reply
-use Rattle.wasi_host.specs.declared.settings.Preopen.{Preopen}
 use Rattle.wasi_host.specs.declared.settings.Settings.{Settings}
 use Rattle.wasi_host.specs.Contexts.{ByContext, any_context}
 use Rattle.wasi_host.specs.OutStreams.{taken_of}
@@ -39,9 +38,10 @@ setting_names (setting.Stderr it) name = output_names it name
 setting_names (setting.Preopen tree path perms) name = bytes_eq tree name
 setting_names other name = false
 
--- .. and those that a context names
-abbrev pub preopen_names : List Preopen → List ℕ → Bool
-preopen_names them name = list_any (λ (it : Preopen). bytes_eq it.tree name) them
+-- a tree that an entry is on
+abbrev pub tree_names : Option (List ℕ) → List ℕ → Bool
+tree_names None name = false
+tree_names (Some it) name = bytes_eq it name
 
 -- whether any context of a guest reads the stream of a name, and whether any writes to it
 abbrev pub uses_input : ByContext Settings → List ℕ → Bool

@@ -1,5 +1,6 @@
 pub mod Contexts
 pub mod Entries
+pub mod OnTrees
 pub mod Shown
 pub mod SharedCalls
 pub mod GuestCalls

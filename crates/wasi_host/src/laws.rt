@@ -1,6 +1,6 @@
-ghost use Rattle.wasi_host.specs.Promises.{HostRuns, CallsStayInReach, InputsArePutBack, OutputsArePutBack, GuestsAreIsolated, EachIsAlone, OutputsKeep, OutputsFill, TranscriptsFixRuns};
+ghost use Rattle.wasi_host.specs.Promises.{HostRuns, CallsStayInReach, InputsArePutBack, OutputsArePutBack, TreesArePutBack, GuestsAreIsolated, EachIsAlone, OutputsKeep, OutputsFill, TranscriptsFixRuns};
 ghost use Rattle.wasi_host.specs.Buffers.{BuffersKeep};
-ghost use Rattle.wasi_host.specs.Traps.{TrapsStay, DeadNumbersAreRefused, EndsFreeEach};
+ghost use Rattle.wasi_host.specs.Traps.{TrapsStay, DeadNumbersAreRefused, DeadSecondsAreRefused, EndsFreeEach};
 ghost use Rattle.wasi_host.specs.Sound.{RunsAreSound, RunsKeepRequests, RunsTellOnce};
 
 use wasi_reply::lines_fix_replies;
@@ -35,6 +35,7 @@ pub fn calls_stay_in_reach()
 pub fn traps_stay_with_their_guest()
     ensures stays { TrapsStay }
     ensures refused { DeadNumbersAreRefused }
+    ensures second { DeadSecondsAreRefused }
     ensures turns { EndsFreeEach }
 {}
 
@@ -43,6 +44,7 @@ pub fn traps_stay_with_their_guest()
 pub fn what_is_put_back()
     ensures inputs { InputsArePutBack }
     ensures outputs { OutputsArePutBack }
+    ensures trees { TreesArePutBack }
 {}
 
 /// A law: of two lists of steps let a guest read the shared input in neither, let no other guest's
