@@ -1,9 +1,11 @@
-ghost use Rattle.std.specs.Prelude.{◌≡◌, IfOk, OnOk, OnErr, true, false};
-ghost use Rattle.std.specs.Str.{bytes_eq};
-ghost use Rattle.wasi_fs_calls.specs.Rule.{IsTold};
-ghost use Rattle.wasi_host.specs.Descriptors.{descriptor_told, elsewhere, filed, flags_told, paired, seen_from, told_of};
-ghost use Rattle.wasi_host.specs.Preopens.{directories, entries_from, root_for, tree_name};
-ghost use Rattle.wasi_session.specs.Filed.{filed_deed, is_opening, placed_in};
+ghost use Rattle.std.specs.Prelude.{◌≡◌, IfOk, OnErr, true, false};
+ghost use Rattle.std.specs.Option.{option_copied};
+ghost use Rattle.wasi_fs_calls.specs.Rule as Rule;
+ghost use Rattle.wasi_host.specs.Calls.{doing};
+ghost use Rattle.wasi_host.specs.Descriptors.{descriptor_deed, descriptor_told, flags_told, seen_from};
+ghost use Rattle.wasi_host.specs.Host.{no_tree};
+ghost use Rattle.wasi_host.specs.Preopens.{directories, root_for, same_tree, tree_name};
+ghost use Rattle.wasi_session.specs.Filed.{filed_at, filed_deed, is_opening, IsTold, paired_at, placed_in};
 
 use bitflags::Flags;
 use std::alloc::Global;
@@ -17,6 +19,12 @@ use wasi_fs_calls::{
 };
 use wasi_host::{Deed, Entry, NewEntries, Preopen, Settings};
 use wasi_reply::Told;
+use wasi_words::is;
+
+const NO_TIME: WallTime = WallTime {
+    seconds: 0,
+    nanoseconds: 0,
+};
 
 /// A descriptor that a guest has, and the `preopen` line of a context that it comes from, counted
 /// from 0 among those of the context.
@@ -67,16 +75,19 @@ pub fn is_opening(call: &DescriptorCall) -> bool
 pub fn filed(
     tree: &mut Tree,
     call: &DescriptorCall,
-    at: &Descriptor,
+    at: &OpenDescriptor,
     blocking: bool,
     now: WallTime,
-) -> Result<Filed, OutOfMemory> {
-    if !tree.holds(at) {
+) -> Result<Filed, OutOfMemory>
+    ensures done { IfOk result (λ it. doing (filed_deed at.now it) tree.new ≡ filed_at now call.now blocking at.now tree.old) }
+    ensures told { is_opening call.now ≡ false → IfOk result IsTold }
+    ensures err { OnErr result (tree.new ≡ tree.old) }
+{
+    if !tree.holds(&at.descriptor) {
         return Ok(mistaken());
     }
-    match answer(tree, call, at, blocking, now) {
-        Ok(DescriptorAnswer::Told(told)) => Ok(Filed::Told(descriptor_told(told))),
-        Ok(DescriptorAnswer::Opened(descriptor)) => Ok(Filed::Opened(descriptor)),
+    match answer(tree, call, &at.descriptor, blocking, now) {
+        Ok(it) => Ok(answered(it)),
         Err(error) => Err(error),
     }
 }
@@ -85,28 +96,76 @@ pub fn filed(
 pub fn paired(
     tree: &mut Tree,
     call: &PairCall,
-    at: &Descriptor,
+    at: &OpenDescriptor,
     is_same: bool,
-    to: &Descriptor,
-) -> Result<Filed, OutOfMemory> {
-    if !tree.holds(at) || (is_same && !tree.holds(to)) {
+    to: &OpenDescriptor,
+) -> Result<Filed, OutOfMemory>
+    ensures done { IfOk result (λ it. doing (filed_deed at.now it) tree.new ≡ paired_at call.now at.now is_same to.now tree.old) }
+    ensures told { IfOk result IsTold }
+    ensures err { OnErr result (tree.new ≡ tree.old) }
+{
+    if !tree.holds(&at.descriptor) || (is_same && !tree.holds(&to.descriptor)) {
         return Ok(mistaken());
     }
-    let to = seen_from(is_same, to);
-    match answer_pair(tree, call, at, &to) {
-        Ok(DescriptorAnswer::Told(told)) => Ok(Filed::Told(descriptor_told(told))),
-        Ok(DescriptorAnswer::Opened(_)) => unreachable!(),
+    let to = seen_from(is_same, &to.descriptor);
+    match answer_pair(tree, call, &at.descriptor, &to) {
+        Ok(it) => Ok(answered(it)),
         Err(error) => Err(error),
     }
 }
 
+/// A call on a descriptor that comes from no line: it is on a tree of its root alone.
+pub fn filed_nowhere(
+    alloc: Global,
+    call: &DescriptorCall,
+    at: &OpenDescriptor,
+    blocking: bool,
+    now: WallTime,
+) -> Result<Filed, OutOfMemory>
+    ensures deed { IfOk result (λ it. filed_deed at.now it ≡ (filed_at now call.now blocking at.now no_tree).deed) }
+    ensures told { is_opening call.now ≡ false → IfOk result IsTold }
+{
+    let mut tree = Tree::new(alloc, 0, NO_TIME)?;
+    filed(&mut tree, call, at, blocking, now)
+}
+
+/// .. and one on two.
+pub fn paired_nowhere(
+    alloc: Global,
+    call: &PairCall,
+    at: &OpenDescriptor,
+    is_same: bool,
+    to: &OpenDescriptor,
+) -> Result<Filed, OutOfMemory>
+    ensures deed { IfOk result (λ it. filed_deed at.now it ≡ (paired_at call.now at.now is_same to.now no_tree).deed) }
+    ensures told { IfOk result IsTold }
+{
+    let mut tree = Tree::new(alloc, 0, NO_TIME)?;
+    paired(&mut tree, call, at, is_same, to)
+}
+
+// what comes of what a tree answers
+fn answered(it: DescriptorAnswer) -> Filed
+    ensures deed { (at : OpenDescriptor) → filed_deed at result ≡ descriptor_deed at.context at.preopen it }
+    ensures told { Rule.IsTold it → IsTold result }
+{
+    match it {
+        DescriptorAnswer::Told(told) => Filed::Told(descriptor_told(told)),
+        DescriptorAnswer::Opened(descriptor) => Filed::Opened(descriptor),
+    }
+}
+
 // a call that is not taken
-fn mistaken() -> Filed {
+fn mistaken() -> Filed
+    ensures { result ≡ Filed.Told (Told.Trap TrapText.ResourceWrongType) }
+{
     Filed::Told(Told::Trap(TrapText::ResourceWrongType))
 }
 
 // a second descriptor, as a call on the first one's tree sees it: all trees have the number 0
-fn seen_from(is_same: bool, to: &Descriptor) -> Descriptor {
+fn seen_from(is_same: bool, to: &Descriptor) -> Descriptor
+    ensures { result ≡ seen_from is_same to.now }
+{
     if is_same {
         return *to;
     }
@@ -117,7 +176,9 @@ fn seen_from(is_same: bool, to: &Descriptor) -> Descriptor {
 }
 
 // what a guest is told of what a tree tells
-fn descriptor_told(told: DescriptorTold) -> Told {
+fn descriptor_told(told: DescriptorTold) -> Told
+    ensures { result ≡ descriptor_told told }
+{
     match told {
         DescriptorTold::Ok => Told::Ok,
         DescriptorTold::Flags(flags) => flags_told(flags),
@@ -130,7 +191,9 @@ fn descriptor_told(told: DescriptorTold) -> Told {
     }
 }
 
-fn flags_told(flags: DescriptorFlags) -> Told {
+fn flags_told(flags: DescriptorFlags) -> Told
+    ensures { result ≡ flags_told flags }
+{
     Told::Flags {
         read: flags.contains(DescriptorFlags::READ),
         write: flags.contains(DescriptorFlags::WRITE),
@@ -139,7 +202,10 @@ fn flags_told(flags: DescriptorFlags) -> Told {
 }
 
 /// What is told of a tree at this place among the declared ones: a hash tells the place.
-pub fn placed(place: usize, filed: Filed) -> Filed {
+pub fn placed(place: usize, filed: Filed) -> Filed
+    ensures is { result ≡ placed_in place filed }
+    ensures told { IsTold filed → IsTold result }
+{
     match filed {
         Filed::Told(Told::Hash { node, tree: _ }) => Filed::Told(Told::Hash {
             node,
@@ -154,9 +220,12 @@ pub fn directories(
     alloc: Global,
     context: Option<u32>,
     settings: &Settings,
-) -> Result<Deed, OutOfMemory> {
+) -> Result<Deed, OutOfMemory>
+    ensures { IfOk result (λ deed. deed ≡ Deed.MakeEach (directories context settings.now)) }
+{
     let mut entries = Vec::new(alloc);
-    for (preopen, it) in settings.preopens.as_slice().iter().enumerate() {
+    let mut preopen = 0;
+    for it in settings.preopens.as_slice() {
         let path = Text::from_str(alloc, it.path.as_str())?;
         let entry = Entry::Descriptor {
             context,
@@ -164,12 +233,15 @@ pub fn directories(
             descriptor: root_for(it, settings.blocking),
         };
         entries.push((entry, path))?;
+        preopen += 1;
     }
     Ok(Deed::MakeEach(NewEntries::new(entries)))
 }
 
 // the root of its tree, to be read, and to be written where that is allowed
-fn root_for(it: &Preopen, blocking: bool) -> Descriptor {
+fn root_for(it: &Preopen, blocking: bool) -> Descriptor
+    ensures { result ≡ root_for it.now blocking }
+{
     let mode = match it.perms {
         FsPerms::ReadOnly => OpenMode::READ,
         FsPerms::ReadWrite => OpenMode::READ.union(OpenMode::WRITE),
@@ -184,9 +256,22 @@ fn root_for(it: &Preopen, blocking: bool) -> Descriptor {
 }
 
 /// The name of the tree that a descriptor is of, by the settings of the context that it comes from.
-pub fn tree_name(settings: &Settings, preopen: usize) -> &[u8] {
+/// There is none where that was not given so many directories.
+pub fn tree_name(settings: &Settings, preopen: usize) -> Option<&[u8]>
+    ensures { option_copied result ≡ tree_name preopen settings.now }
+{
     match settings.preopens.as_slice().get(preopen) {
-        Some(it) => it.tree.as_bytes(),
-        None => &[],
+        Some(it) => Some(it.tree.as_bytes()),
+        None => None,
+    }
+}
+
+/// Whether two descriptors are of one tree.
+pub fn is_same_tree(one: Option<&[u8]>, other: Option<&[u8]>) -> bool
+    ensures { result ≡ same_tree (option_copied one) (option_copied other) }
+{
+    match (one, other) {
+        (Some(one), Some(other)) => is(one, other),
+        _ => false,
     }
 }

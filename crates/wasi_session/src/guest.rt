@@ -2,7 +2,7 @@ ghost use Rattle.std.specs.Prelude.{◌≡◌, ◌≤◌, Some, IfOk, OnOk, OnEr
 ghost use Rattle.wasi_reply.specs.Reply.{ends};
 ghost use Rattle.wasi_host.specs.Calls.{opened, stream_entry, owned, exit_status};
 ghost use Rattle.wasi_host.specs.Deeds.{entry_at};
-ghost use Rattle.wasi_host.specs.Contexts.{is_named, at_context};
+ghost use Rattle.wasi_host.specs.Contexts.{is_named, at_context, has_context};
 ghost use Rattle.wasi_session.specs.Makes.{IsMake};
 ghost use Rattle.wasi_session.specs.Fitting.{SettingFits};
 ghost use Rattle.wasi_session.specs.StreamCalls.{stream_doing};
@@ -84,7 +84,16 @@ impl Guest {
     pub fn was_given(&self, context: Option<u32>) -> bool
         ensures { result ≡ has_preopen_in context (Some self.now) }
     {
-        !self.contexts.settings(context).preopens.as_slice().is_empty()
+        self.has_context_of(context) && !self.contexts.settings(context).preopens.as_slice().is_empty()
+    }
+
+    fn has_context_of(&self, context: Option<u32>) -> bool
+        ensures { result ≡ has_context context self.now.settings }
+    {
+        match context {
+            None => true,
+            Some(id) => self.has_context(id),
+        }
     }
 
     /// A named context of a new number.
@@ -223,7 +232,7 @@ impl Guest {
             }
             Call::Descriptor { number, call } => {
                 let blocking = self.contexts.settings(caller.named).blocking;
-                self.call_descriptor(alloc, call, *number, blocking, clocks.wall_now, streams)
+                self.call_descriptor(alloc, call, *number, blocking, clocks, streams)
             }
             Call::Pair { number, to, call } => self.call_pair(alloc, call, *number, *to, streams),
             Call::Random(call) => match self.contexts.draw(alloc, caller.named, *call) {

@@ -1,7 +1,9 @@
-ghost use Rattle.std.specs.Prelude.{◌≡◌, ◌≤◌, IfOk, OnErr, None, Some, MatchOption, Option, ℕ, true, false};
+ghost use Rattle.std.specs.Prelude.{◌≡◌, ◌≤◌, nat_eq, length, IfOk, OnOk, OnErr, None, Some, MatchOption, Option, ℕ, true, false};
 ghost use Rattle.std.specs.Option.{option_copied};
-ghost use Rattle.wasi_table.specs.Table.{new_table, is_live};
-ghost use Rattle.wasi_host.specs.Deeds.{Own, act, apart, made, goes_under, may_change, with_kept, entry_at, dropped};
+ghost use Rattle.wasi_table.specs.Table.{new_table, is_live, live_count, has_room};
+ghost use Rattle.wasi_host.specs.Deeds.{Own, act, apart, made, goes_under, may_change, with_kept, entry_at, dropped, handles_made, with_each};
+ghost use Rattle.wasi_session.specs.Filed.{descriptor_in};
+ghost use Rattle.wasi_session.specs.Holding.{IsHeld, let_go, all_let_go};
 ghost use Rattle.wasi_session.specs.Makes.{IsMake};
 
 use crate::descriptors::OpenDescriptor;
@@ -88,7 +90,9 @@ impl Own {
     }
 
     /// The descriptor at a number, or why a call on it traps.
-    pub fn descriptor(&self, number: u64) -> Result<OpenDescriptor, TrapText> {
+    pub fn descriptor(&self, number: u64) -> Result<OpenDescriptor, TrapText>
+        ensures { result ≡ descriptor_in (entry_at self.now number) }
+    {
         let Some(narrow) = self.place(number) else {
             return Err(TrapText::ResourceNotPresent);
         };
@@ -112,12 +116,21 @@ impl Own {
     }
 
     /// Whether there is no room for another entry.
-    pub fn is_full(&self) -> bool {
+    pub fn is_full(&self) -> bool
+        ensures is { result ≡ nat_eq (live_count self.now.table) self.now.table.capacity }
+        ensures room { result ≡ false → has_room self.now.table 1 ≡ true }
+    {
+        let _live = self.table.len();
         !self.table.has_room(1)
     }
 
-    /// Puts an entry without a parent in for now, where there is room for it.
-    pub fn hold(&mut self, entry: Entry) -> Result<Place, OutOfMemory> {
+    /// Puts an entry without a parent in, which may be taken out again as if it had not been. There is
+    /// room for it.
+    pub fn hold(&mut self, entry: Entry) -> Result<Place, OutOfMemory>
+        requires { has_room self.old.table 1 ≡ true }
+        ensures held { IfOk result (λ place. IsHeld self.old entry place self.new) }
+        ensures err { OnErr result (self.new ≡ self.old) }
+    {
         // The checker is told of the type within by its name.
         let _shared = matches!(entry, Entry::Shared(SharedEntry::Reader));
         let _live = self.table.len();
@@ -129,13 +142,19 @@ impl Own {
         }
     }
 
-    /// Takes the entry that was put in last out again: it is as if it had not been put in.
-    pub fn let_go(&mut self, place: Place) {
+    /// Takes the entry that was put in last out again.
+    pub fn let_go(&mut self, place: Place)
+        ensures { self.new ≡ record { table = let_go place self.old.table } }
+    {
         self.table.take_back(place.number, place.fresh);
     }
 
-    /// Puts this one in its place, which stays.
-    pub fn fill(&mut self, place: Place, entry: Entry) -> Reply {
+    /// Puts another one in its place, which stays.
+    pub fn fill(&mut self, place: Place, entry: Entry) -> Reply
+        requires { is_live self.old.table place.number ≡ true }
+        ensures reply { result ≡ Reply.Handle place.number }
+        ensures after { self.new ≡ with_kept self.old place.number entry }
+    {
         self.put(place.number, entry);
         Reply::Handle(place.number)
     }
@@ -191,7 +210,10 @@ impl Own {
         &mut self,
         alloc: Global,
         entries: Vec<(Entry, Text)>,
-    ) -> Result<Reply, OutOfMemory> {
+    ) -> Result<Reply, OutOfMemory>
+        ensures done { IfOk result (λ reply. record { reply = reply; own = self.new } ≡ act (Deed.MakeEach entries.items) self.old) }
+        ensures err { OnErr result (self.new ≡ self.old) }
+    {
         if !entries.iter().all(|it| it.0.stands_alone()) {
             return Ok(trap(TrapText::ResourceWrongType));
         }
@@ -206,7 +228,12 @@ impl Own {
         &mut self,
         alloc: Global,
         entries: Vec<(Entry, Text)>,
-    ) -> Result<Reply, OutOfMemory> {
+    ) -> Result<Reply, OutOfMemory>
+        requires { has_room self.old.table (length entries.items) ≡ true }
+        ensures reply { IfOk result (λ reply. reply ≡ Reply.Directories (handles_made entries.items self.old.table)) }
+        ensures after { OnOk result (self.new ≡ record { table = with_each entries.items self.old.table }) }
+        ensures err { OnErr result (self.new ≡ self.old) }
+    {
         let mut places = Vec::with_capacity(alloc, entries.len())?;
         let mut handles = Vec::with_capacity(alloc, entries.len())?;
         for (entry, path) in entries {
@@ -225,7 +252,9 @@ impl Own {
     }
 
     // takes all of them out again, the last one first
-    fn let_all_go(&mut self, places: Vec<Place>) {
+    fn let_all_go(&mut self, places: Vec<Place>)
+        ensures { self.new ≡ record { table = all_let_go places.items self.old.table } }
+    {
         let mut places = places;
         while let Some(place) = places.pop() {
             self.let_go(place);

@@ -1,4 +1,4 @@
-ghost use Rattle.std.specs.Prelude.{◌≡◌, ◌+◌, ◌∷◌, ◌++◌, [], None, Some, IfOk, OnOk, OnErr, length, take};
+ghost use Rattle.std.specs.Prelude.{◌≡◌, ◌+◌, ◌∷◌, ◌++◌, [], None, Some, false, IfOk, OnOk, OnErr, length, take};
 ghost use Rattle.std.specs.Map.{lookup};
 ghost use Rattle.std.specs.Str.{bytes_eq};
 ghost use Rattle.wasi_script.specs.Grammar.{is_among};
@@ -7,14 +7,19 @@ ghost use Rattle.wasi_host.specs.declared.stream.InStream.TheVariants as in_stre
 ghost use Rattle.wasi_host.specs.declared.stream.OutStream.TheVariants as out_stream;
 ghost use Rattle.wasi_host.specs.Calls.{called, sent};
 ghost use Rattle.wasi_host.specs.Tasks.{input_turned, output_turned};
-ghost use Rattle.wasi_host.specs.Host.{the_rules, names_in, is_reader, is_writer, is_process, reads_ahead_in, writes_behind_in, has_stdio_in, taken_out, put_back, task_told, after_task, leave_input, leave_output, new_tree, with_node, with_fault};
+ghost use Rattle.wasi_host.specs.Host.{the_rules, names_in, is_reader, is_writer, is_process, reads_ahead_in, writes_behind_in, has_stdio_in, taken_out, put_back, task_told, after_task, leave_input, leave_output, new_tree, put_tree, tree_at, tree_place, with_node, with_fault};
+ghost use Rattle.wasi_host.specs.Descriptors.{placed};
+ghost use Rattle.wasi_host.specs.Preopens.{same_tree, tree_name};
 ghost use Rattle.wasi_host.specs.InStreams.{input_without};
 ghost use Rattle.wasi_host.specs.OutStreams.{output_without};
 ghost use Rattle.wasi_host.specs.Transcript.{outputs_of};
+ghost use Rattle.wasi_session.specs.Filed.{filed_at, filed_deed, is_opening, IsTold, paired_at};
 ghost use Rattle.wasi_session.specs.Makes.{IsMake};
 ghost use Rattle.wasi_session.specs.StreamCalls.{input_doing, output_doing};
 
-use crate::descriptors::Filed;
+use crate::descriptors::{
+    Filed, OpenDescriptor, filed_nowhere, is_same_tree, paired_nowhere, placed, tree_name,
+};
 use crate::input::{called, called_closed, leave_input, read_ahead};
 use crate::output::{leave_output, sent, sent_closed, write_behind};
 use crate::trees::Trees;
@@ -24,9 +29,8 @@ use std::marker::Model;
 use wasi_base::{IoKind, OutOfMemory, Text};
 use wasi_cli::Owner;
 use wasi_clocks::WallTime;
-use wasi_fs::Descriptor;
 use wasi_fs_calls::{DescriptorCall, PairCall};
-use wasi_host::{Deed, InStream, Leaver, OutStream, StreamEntry};
+use wasi_host::{Deed, InStream, Leaver, OutStream, Settings, StreamEntry};
 use wasi_reply::{Worked, push_output};
 use wasi_script::{EntryCall, Input, Name, NewNode, Output, Standard, StreamTask};
 
@@ -350,30 +354,55 @@ impl Streams {
         self.trees.fail_next(tree.as_bytes(), kind);
     }
 
-    /// A call on a descriptor of the tree of a name. Out of memory changes nothing.
+    /// A call on a descriptor, by the settings of the context that it comes from, which say on which
+    /// tree it is. Out of memory changes nothing.
     pub fn file(
         &mut self,
         alloc: Global,
-        name: &[u8],
         call: &DescriptorCall,
-        at: &Descriptor,
+        at: &OpenDescriptor,
+        settings: &Settings,
         blocking: bool,
         now: WallTime,
-    ) -> Result<Filed, OutOfMemory> {
-        self.trees.file(alloc, name, call, at, blocking, now)
+    ) -> Result<Filed, OutOfMemory>
+        ensures deed { IfOk result (λ it. filed_deed at.now it ≡ placed (tree_place (tree_name at.now.preopen settings.now) self.old) (filed_at now call.now blocking at.now (tree_at (tree_name at.now.preopen settings.now) self.old)).deed) }
+        ensures left { OnOk result (self.new ≡ put_tree (tree_name at.now.preopen settings.now) (filed_at now call.now blocking at.now (tree_at (tree_name at.now.preopen settings.now) self.old)).left self.old) }
+        ensures told { is_opening call.now ≡ false → IfOk result IsTold }
+        ensures err { OnErr result (self.new ≡ self.old) }
+    {
+        match tree_name(settings, at.preopen) {
+            Some(name) => self.trees.file(alloc, name, call, at, blocking, now),
+            None => match filed_nowhere(alloc, call, at, blocking, now) {
+                Ok(it) => Ok(placed(0, it)),
+                Err(error) => Err(error),
+            },
+        }
     }
 
-    /// The same of a call on two, of which the second one is of the same tree or not.
+    /// The same of a call on two: it is on the tree of the first.
     pub fn pair(
         &mut self,
         alloc: Global,
-        name: &[u8],
         call: &PairCall,
-        at: &Descriptor,
-        is_same: bool,
-        to: &Descriptor,
-    ) -> Result<Filed, OutOfMemory> {
-        self.trees.pair(alloc, name, call, at, is_same, to)
+        at: &OpenDescriptor,
+        settings: &Settings,
+        to: &OpenDescriptor,
+        other: &Settings,
+    ) -> Result<Filed, OutOfMemory>
+        ensures deed { IfOk result (λ it. filed_deed at.now it ≡ placed (tree_place (tree_name at.now.preopen settings.now) self.old) (paired_at call.now at.now (same_tree (tree_name at.now.preopen settings.now) (tree_name to.now.preopen other.now)) to.now (tree_at (tree_name at.now.preopen settings.now) self.old)).deed) }
+        ensures left { OnOk result (self.new ≡ put_tree (tree_name at.now.preopen settings.now) (paired_at call.now at.now (same_tree (tree_name at.now.preopen settings.now) (tree_name to.now.preopen other.now)) to.now (tree_at (tree_name at.now.preopen settings.now) self.old)).left self.old) }
+        ensures told { IfOk result IsTold }
+        ensures err { OnErr result (self.new ≡ self.old) }
+    {
+        let name = tree_name(settings, at.preopen);
+        let is_same = is_same_tree(name, tree_name(other, to.preopen));
+        match name {
+            Some(name) => self.trees.pair(alloc, name, call, at, is_same, to),
+            None => match paired_nowhere(alloc, call, at, is_same, to) {
+                Ok(it) => Ok(placed(0, it)),
+                Err(error) => Err(error),
+            },
+        }
     }
 
     /// Appends the line of each declared output, in order. Out of memory may leave a part of them.

@@ -1,27 +1,26 @@
-ghost use Rattle.std.specs.Prelude.{◌≡◌, ◌∷◌, ◌++◌, [], None, IfOk, OnOk, OnErr, length};
+ghost use Rattle.std.specs.Prelude.{◌≡◌, ◌∷◌, ◌++◌, [], None, Some, false, IfOk, OnOk, OnErr, length};
 ghost use Rattle.std.specs.Map.{lookup};
+ghost use Rattle.std.specs.Option.{option_copied};
 ghost use Rattle.std.specs.Str.{bytes_eq};
 ghost use Rattle.wasi_fs.specs.Trees.{with_nodes};
 ghost use Rattle.wasi_script.specs.Grammar.{is_among};
 ghost use Rattle.wasi_script.specs.Trees.{nodes_after};
-ghost use Rattle.wasi_host.specs.Descriptors.{filed, paired};
+ghost use Rattle.wasi_host.specs.Descriptors.{placed};
 ghost use Rattle.wasi_host.specs.Host.{names_in, new_tree, no_tree, place_of, put_back, taken_out};
-ghost use Rattle.wasi_session.specs.Filed.{filed_deed, placed_deed};
+ghost use Rattle.wasi_session.specs.Filed.{filed_at, filed_deed, is_opening, IsTold, paired_at};
+ghost use Rattle.wasi_session.specs.Nodes.{added};
 
-use crate::descriptors::{Filed, filed, paired, placed};
+use crate::descriptors::{
+    Filed, OpenDescriptor, filed, filed_nowhere, paired, paired_nowhere, placed,
+};
 use indexmap::IndexMap;
 use std::alloc::Global;
 use std::marker::Model;
 use wasi_base::{IoKind, OutOfMemory, Text, TrappableError};
 use wasi_clocks::WallTime;
-use wasi_fs::{Descriptor, FilesystemResult, Tree};
+use wasi_fs::{FilesystemResult, Tree};
 use wasi_fs_calls::{DescriptorCall, PairCall};
 use wasi_script::{Name, NewNode};
-
-const NO_TIME: WallTime = WallTime {
-    seconds: 0,
-    nanoseconds: 0,
-};
 
 /// The declared trees by their names, in order of declaration. Which tree a descriptor is of, its
 /// entry says, so all have the number 0.
@@ -120,10 +119,15 @@ impl Trees {
         alloc: Global,
         name: &[u8],
         call: &DescriptorCall,
-        at: &Descriptor,
+        at: &OpenDescriptor,
         blocking: bool,
         now: WallTime,
-    ) -> Result<Filed, OutOfMemory> {
+    ) -> Result<Filed, OutOfMemory>
+        ensures deed { IfOk result (λ it. filed_deed at.now it ≡ placed (place_of name.now self.old) (filed_at now call.now blocking at.now (taken_out no_tree name.now self.old)).deed) }
+        ensures left { OnOk result (self.new ≡ put_back name.now (filed_at now call.now blocking at.now (taken_out no_tree name.now self.old)).left self.old) }
+        ensures told { is_opening call.now ≡ false → IfOk result IsTold }
+        ensures err { OnErr result (self.new ≡ self.old) }
+    {
         let place = self.place(name);
         match self.file_named(alloc, name, call, at, blocking, now) {
             Ok(it) => Ok(placed(place, it)),
@@ -131,22 +135,23 @@ impl Trees {
         }
     }
 
-    // on a tree of its root alone where there is none of this name
     fn file_named(
         &mut self,
         alloc: Global,
         name: &[u8],
         call: &DescriptorCall,
-        at: &Descriptor,
+        at: &OpenDescriptor,
         blocking: bool,
         now: WallTime,
-    ) -> Result<Filed, OutOfMemory> {
+    ) -> Result<Filed, OutOfMemory>
+        ensures deed { IfOk result (λ it. filed_deed at.now it ≡ (filed_at now call.now blocking at.now (taken_out no_tree name.now self.old)).deed) }
+        ensures left { OnOk result (self.new ≡ put_back name.now (filed_at now call.now blocking at.now (taken_out no_tree name.now self.old)).left self.old) }
+        ensures told { is_opening call.now ≡ false → IfOk result IsTold }
+        ensures err { OnErr result (self.new ≡ self.old) }
+    {
         match self.kept.get_mut(name) {
             Some(tree) => filed(tree, call, at, blocking, now),
-            None => {
-                let mut tree = Tree::new(alloc, 0, NO_TIME)?;
-                filed(&mut tree, call, at, blocking, now)
-            }
+            None => filed_nowhere(alloc, call, at, blocking, now),
         }
     }
 
@@ -157,10 +162,15 @@ impl Trees {
         alloc: Global,
         name: &[u8],
         call: &PairCall,
-        at: &Descriptor,
+        at: &OpenDescriptor,
         is_same: bool,
-        to: &Descriptor,
-    ) -> Result<Filed, OutOfMemory> {
+        to: &OpenDescriptor,
+    ) -> Result<Filed, OutOfMemory>
+        ensures deed { IfOk result (λ it. filed_deed at.now it ≡ placed (place_of name.now self.old) (paired_at call.now at.now is_same to.now (taken_out no_tree name.now self.old)).deed) }
+        ensures left { OnOk result (self.new ≡ put_back name.now (paired_at call.now at.now is_same to.now (taken_out no_tree name.now self.old)).left self.old) }
+        ensures told { IfOk result IsTold }
+        ensures err { OnErr result (self.new ≡ self.old) }
+    {
         let place = self.place(name);
         match self.pair_named(alloc, name, call, at, is_same, to) {
             Ok(it) => Ok(placed(place, it)),
@@ -173,21 +183,25 @@ impl Trees {
         alloc: Global,
         name: &[u8],
         call: &PairCall,
-        at: &Descriptor,
+        at: &OpenDescriptor,
         is_same: bool,
-        to: &Descriptor,
-    ) -> Result<Filed, OutOfMemory> {
+        to: &OpenDescriptor,
+    ) -> Result<Filed, OutOfMemory>
+        ensures deed { IfOk result (λ it. filed_deed at.now it ≡ (paired_at call.now at.now is_same to.now (taken_out no_tree name.now self.old)).deed) }
+        ensures left { OnOk result (self.new ≡ put_back name.now (paired_at call.now at.now is_same to.now (taken_out no_tree name.now self.old)).left self.old) }
+        ensures told { IfOk result IsTold }
+        ensures err { OnErr result (self.new ≡ self.old) }
+    {
         match self.kept.get_mut(name) {
             Some(tree) => paired(tree, call, at, is_same, to),
-            None => {
-                let mut tree = Tree::new(alloc, 0, NO_TIME)?;
-                paired(&mut tree, call, at, is_same, to)
-            }
+            None => paired_nowhere(alloc, call, at, is_same, to),
         }
     }
 
     // which one it is in order of declaration, from 0
-    fn place(&self, name: &[u8]) -> usize {
+    fn place(&self, name: &[u8]) -> usize
+        ensures { result ≡ place_of name.now self.now }
+    {
         match self.kept.get_index_of(name) {
             Some(place) => place,
             None => self.kept.len(),
@@ -202,7 +216,10 @@ fn add_node(
     path: &Text,
     node: &NewNode,
     now: WallTime,
-) -> Result<(), OutOfMemory> {
+) -> Result<(), OutOfMemory>
+    ensures ok { OnOk result (tree.new ≡ with_nodes tree.old (nodes_after tree.old.nodes path.now node.now now)) }
+    ensures err { OnErr result (tree.new ≡ tree.old) }
+{
     match node {
         NewNode::Directory => added(tree.add_dir(path.as_str(), now)),
         NewNode::File(bytes) => {
@@ -214,7 +231,9 @@ fn add_node(
 }
 
 // No call of a tree traps, and one that it refuses leaves it as it was.
-fn added(outcome: FilesystemResult<()>) -> Result<(), OutOfMemory> {
+fn added(outcome: FilesystemResult<()>) -> Result<(), OutOfMemory>
+    ensures { result ≡ added outcome }
+{
     match outcome {
         Ok(()) | Err(TrappableError::Normal(_)) => Ok(()),
         Err(TrappableError::Trap(_) | TrappableError::OutOfMemory) => Err(OutOfMemory),
