@@ -16,9 +16,15 @@ pub enum Told {
     /// Whether a pollable, a deadline or a wait is ready.
     Truth(bool),
     /// What a wall clock reads, or its resolution: whole seconds, and nanoseconds on top of them.
-    Time { seconds: u64, nanoseconds: u32 },
+    Time {
+        seconds: u64,
+        nanoseconds: u32,
+    },
     /// The seed for a guest's insecure uses: its low 64 bits, and its high ones.
-    Seed { low: u64, high: u64 },
+    Seed {
+        low: u64,
+        high: u64,
+    },
     /// The variables of a guest's environment.
     Environment(TextPairs),
     /// A guest's arguments.
@@ -38,7 +44,10 @@ pub enum Told {
     /// The text of a link.
     Text(Text),
     /// A node's number in its tree, and the tree's place among the declared ones, from 0.
-    Hash { node: u64, tree: u64 },
+    Hash {
+        node: u64,
+        tree: u64,
+    },
     /// A call on a descriptor is refused.
     Err(ErrorCode),
     /// There is none: the stream is no terminal, or the guest begins in no directory.

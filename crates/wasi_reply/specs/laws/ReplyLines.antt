@@ -28,6 +28,7 @@ worked_word other = (refl, refl)
 
 pub reply_word : (it : Reply) → IsWord (fields_of it).0
 reply_word (reply.Handle number) = (refl, refl)
+reply_word (reply.Directories directories) = (refl, refl)
 reply_word (reply.Told it) = told_word it
 reply_word reply.Ended = (refl, refl)
 reply_word (reply.Worked it) = worked_word it
