@@ -72,7 +72,7 @@ pub fn is_opening(call: &DescriptorCall) -> bool
 
 /// A call on a descriptor of a tree, by whether the streams of the context that calls work at once.
 /// One that is of no node of the tree is not taken. Out of memory changes nothing.
-pub fn filed(
+pub fn call_on(
     tree: &mut Tree,
     call: &DescriptorCall,
     at: &OpenDescriptor,
@@ -93,7 +93,7 @@ pub fn filed(
 }
 
 /// The same of a call on two, of which the second one may be of another tree.
-pub fn paired(
+pub fn pair_on(
     tree: &mut Tree,
     call: &PairCall,
     at: &OpenDescriptor,
@@ -115,7 +115,7 @@ pub fn paired(
 }
 
 /// A call on a descriptor that comes from no line: it is on a tree of its root alone.
-pub fn filed_nowhere(
+pub fn call_nowhere(
     alloc: Global,
     call: &DescriptorCall,
     at: &OpenDescriptor,
@@ -126,11 +126,11 @@ pub fn filed_nowhere(
     ensures told { is_opening call.now ≡ false → IfOk result IsTold }
 {
     let mut tree = Tree::new(alloc, 0, NO_TIME)?;
-    filed(&mut tree, call, at, blocking, now)
+    call_on(&mut tree, call, at, blocking, now)
 }
 
 /// .. and one on two.
-pub fn paired_nowhere(
+pub fn pair_nowhere(
     alloc: Global,
     call: &PairCall,
     at: &OpenDescriptor,
@@ -141,7 +141,7 @@ pub fn paired_nowhere(
     ensures told { IfOk result IsTold }
 {
     let mut tree = Tree::new(alloc, 0, NO_TIME)?;
-    paired(&mut tree, call, at, is_same, to)
+    pair_on(&mut tree, call, at, is_same, to)
 }
 
 // what comes of what a tree answers

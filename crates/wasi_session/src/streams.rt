@@ -18,7 +18,7 @@ ghost use Rattle.wasi_session.specs.Makes.{IsMake};
 ghost use Rattle.wasi_session.specs.StreamCalls.{input_doing, output_doing};
 
 use crate::descriptors::{
-    Filed, OpenDescriptor, filed_nowhere, is_same_tree, paired_nowhere, placed, tree_name,
+    Filed, OpenDescriptor, call_nowhere, is_same_tree, pair_nowhere, placed, tree_name,
 };
 use crate::input::{called, called_closed, leave_input, read_ahead};
 use crate::output::{leave_output, sent, sent_closed, write_behind};
@@ -372,7 +372,7 @@ impl Streams {
     {
         match tree_name(settings, at.preopen) {
             Some(name) => self.trees.file(alloc, name, call, at, blocking, now),
-            None => match filed_nowhere(alloc, call, at, blocking, now) {
+            None => match call_nowhere(alloc, call, at, blocking, now) {
                 Ok(it) => Ok(placed(0, it)),
                 Err(error) => Err(error),
             },
@@ -398,7 +398,7 @@ impl Streams {
         let is_same = is_same_tree(name, tree_name(other, to.preopen));
         match name {
             Some(name) => self.trees.pair(alloc, name, call, at, is_same, to),
-            None => match paired_nowhere(alloc, call, at, is_same, to) {
+            None => match pair_nowhere(alloc, call, at, is_same, to) {
                 Ok(it) => Ok(placed(0, it)),
                 Err(error) => Err(error),
             },

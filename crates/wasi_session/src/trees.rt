@@ -11,7 +11,7 @@ ghost use Rattle.wasi_session.specs.Filed.{filed_at, filed_deed, is_opening, IsT
 ghost use Rattle.wasi_session.specs.Nodes.{added};
 
 use crate::descriptors::{
-    Filed, OpenDescriptor, filed, filed_nowhere, paired, paired_nowhere, placed,
+    Filed, OpenDescriptor, call_nowhere, call_on, pair_nowhere, pair_on, placed,
 };
 use indexmap::IndexMap;
 use std::alloc::Global;
@@ -150,8 +150,8 @@ impl Trees {
         ensures err { OnErr result (self.new ≡ self.old) }
     {
         match self.kept.get_mut(name) {
-            Some(tree) => filed(tree, call, at, blocking, now),
-            None => filed_nowhere(alloc, call, at, blocking, now),
+            Some(tree) => call_on(tree, call, at, blocking, now),
+            None => call_nowhere(alloc, call, at, blocking, now),
         }
     }
 
@@ -193,8 +193,8 @@ impl Trees {
         ensures err { OnErr result (self.new ≡ self.old) }
     {
         match self.kept.get_mut(name) {
-            Some(tree) => paired(tree, call, at, is_same, to),
-            None => paired_nowhere(alloc, call, at, is_same, to),
+            Some(tree) => pair_on(tree, call, at, is_same, to),
+            None => pair_nowhere(alloc, call, at, is_same, to),
         }
     }
 
