@@ -1,5 +1,5 @@
 -- The calls on descriptors, and their fields.
-use Rattle.std.specs.Prelude.{ℕ, ℤ, pos, neg_ℤ, ◌^◌, Bool, cond, nat_eq, nat_le, nat_lt, List, [], ◌∷◌, Option, Some, None, codes}
+use Rattle.std.specs.Prelude.{ℕ, ℤ, pos, neg_ℤ, ◌^◌, Bool, cond, nat_eq, nat_le, nat_lt, List, [], ◌∷◌, length, Option, Some, None, codes}
 use Rattle.std.specs.Int.RustNames.{bit_and, bit_or}
 use Rattle.std.specs.List.{slice_split}
 use Rattle.std.specs.Option.{option_and_then, option_map}
@@ -39,8 +39,7 @@ letters_joined flag_of flags (letter ∷ letters) = option_and_then (λ more. le
 
 -- `-` for none, or letters
 abbrev pub letters_of : (ℕ → Option ℕ) → List ℕ → Option ℕ
-letters_of flag_of [] = None
-letters_of flag_of (letter ∷ letters) = cond (bytes_eq (letter ∷ letters) (codes "-")) (Some 0) (letters_joined flag_of 0 (letter ∷ letters))
+letters_of flag_of word = cond (nat_eq (length word) 0) None (cond (bytes_eq word (codes "-")) (Some 0) (letters_joined flag_of 0 word))
 
 -- `c` create, `d` directory, `e` exclusive, `t` truncate
 abbrev pub open_flag : ℕ → Option ℕ

@@ -3,6 +3,9 @@ use Rattle.std.specs.Prelude.{◌≡◌, ℕ, Bool, true, false, List, [], ◌�
 use Rattle.std.specs.Map.{lookup, set_value}
 use Rattle.std.specs.Option.{option_map}
 use Rattle.std.specs.Str.{bytes_eq}
+use Rattle.wasi_base.specs.declared.out_of_memory.OutOfMemory.{OutOfMemory}
+use Rattle.wasi_base.specs.declared.trappable.TrappableError.{TrappableError}
+use Rattle.wasi_base.specs.declared.trappable.TrappableError.TheVariants as error
 use Rattle.wasi_clocks.specs.declared.wall_times.WallTime.{WallTime}
 use Rattle.wasi_fs_types.specs.declared.error_code.ErrorCode.{ErrorCode}
 use Rattle.wasi_fs_nodes.specs.Changes.{root_alone}
@@ -62,3 +65,10 @@ node_declared name path it now trees = record { names = trees.names; growing = o
 
 abbrev pub trees_closed : DeclaredTrees → DeclaredTrees
 trees_closed trees = record { names = trees.names; growing = None }
+
+-- a node that is refused is not added; all else that fails is want of memory
+abbrev pub done_of : Result (Unit {0}) (TrappableError ErrorCode) → Result (Unit {0}) OutOfMemory
+done_of (Ok done) = Ok done
+done_of (Err (error.Normal code)) = Ok tt
+done_of (Err (error.Trap text)) = Err (record {})
+done_of (Err error.OutOfMemory) = Err (record {})

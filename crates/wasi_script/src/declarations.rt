@@ -1,12 +1,14 @@
-ghost use Rattle.std.specs.Prelude.{◌≡◌, ◌+◌, ◌<◌, length, slice_index_or, option_map, option_copied, option_and_then, true, false, OnOk, OnErr};
+ghost use Rattle.std.specs.Prelude.{◌≡◌, ◌+◌, ◌<◌, length, slice_index_or, option_map, option_copied, option_and_then, true, false, IfSome, OnOk, OnErr};
 ghost use Rattle.std.specs.Map.{lookup};
 ghost use Rattle.std.specs.Str.{bytes_eq};
-ghost use Rattle.wasi_script.specs.Grammar.{Names, may_stand, is_new, may_declare, may_declare_tree, node_stands, budget_stands, may_set_up, context_stands, input_stands, output_stands, setting_stands, turn_stands, names_after, no_names, is_among};
+ghost use Rattle.wasi_script.specs.Grammar.{Names, may_stand, is_new, may_declare, may_declare_tree, node_stands, budget_stands, may_set_up, context_stands, input_stands, output_stands, setting_stands, turn_stands, names_after, no_names, is_among, is_given, also_given, wall_after};
 ghost use Rattle.wasi_script.specs.Declarations.{input_flags, output_flags, context_at, given_at};
+ghost use Rattle.wasi_fs.specs.Calls.{directory_added, file_added, link_added};
 ghost use Rattle.wasi_script.specs.Trees.{is_added, node_added};
 ghost use Rattle.wasi_script.specs.declared.lines.Line.TheVariants as line;
 ghost use Rattle.wasi_clocks.specs.declared.wall_times.WallTime.{WallTime};
 
+use crate::bytes::ByteString;
 use crate::lines::{
     ClockSetting, Context, Input, InputDeclaration, Line, NewNode, Output, OutputDeclaration,
     Setting, StreamTask,
@@ -137,7 +139,7 @@ pub trait Declared {
         ensures { result ≡ node_stands (names self.now) tree.now path.now node.now }
     {
         match self.growing(tree.as_bytes()) {
-            Some(tree) => may_add(tree, path, node),
+            Some(tree) => has_room(tree, path, node),
             None => false,
         }
     }
@@ -205,15 +207,35 @@ pub trait Declared {
     }
 }
 
-// whether a tree has room for a node
-fn may_add(tree: &Tree, path: &Text, node: &NewNode) -> bool
+// whether a tree has room for a directory, a file, a link
+fn room_for_directory(tree: &Tree, path: &str) -> bool
+    ensures { (now : WallTime) → result ≡ is_added (directory_added tree.now.nodes path.now now) }
+{
+    tree.may_add(path, 0).is_ok()
+}
+
+fn room_for_file(tree: &Tree, path: &str, bytes: &ByteString) -> bool
+    ensures { (now : WallTime) → result ≡ is_added (file_added tree.now.nodes path.now bytes.now now) }
+{
+    tree.may_add(path, bytes.len()).is_ok()
+}
+
+fn room_for_link(tree: &Tree, path: &str, text: &Text) -> bool
+    ensures { (now : WallTime) → result ≡ is_added (link_added tree.now.nodes path.now text.now now) }
+{
+    tree.may_add(path, 0).is_ok()
+}
+
+// .. for a node
+fn has_room(tree: &Tree, path: &Text, node: &NewNode) -> bool
     ensures { (now : WallTime) → result ≡ is_added (node_added tree.now.nodes path.now node.now now) }
 {
-    let size = match node {
-        NewNode::Directory | NewNode::Link(_) => 0,
-        NewNode::File(bytes) => bytes.len(),
-    };
-    tree.may_add(path.as_str(), size).is_ok()
+    let path = path.as_str();
+    match node {
+        NewNode::Directory => room_for_directory(tree, path),
+        NewNode::File(bytes) => room_for_file(tree, path, bytes),
+        NewNode::Link(text) => room_for_link(tree, path, text),
+    }
 }
 
 // a named context's flag
@@ -250,6 +272,24 @@ fn output_flags(output: &OutputDeclaration) -> StreamFlags
     StreamFlags {
         has_task: matches!(output, OutputDeclaration::Buffered { .. }),
         is_stdio: matches!(output, OutputDeclaration::Stdio { .. }),
+    }
+}
+
+// whether a setting gives its context a directory
+fn is_given(setting: &Setting) -> bool
+    ensures { result ≡ is_given setting.now }
+{
+    matches!(setting, Setting::Preopen { .. })
+}
+
+fn wall_after(wall: WallTime, setting: ClockSetting) -> WallTime
+    ensures { result ≡ wall_after wall setting }
+{
+    match setting {
+        ClockSetting::Wall(now) => now,
+        ClockSetting::Monotonic(_)
+        | ClockSetting::MonotonicResolution(_)
+        | ClockSetting::WallResolution(_) => wall,
     }
 }
 
@@ -380,23 +420,26 @@ impl Declarations {
                 self.trees
                     .add_node(alloc, tree.as_bytes(), path, node, self.wall)?;
             }
-            Line::Configure {
-                context,
-                setting: Setting::Preopen { .. },
-            } => self.give(context),
-            Line::Clock(ClockSetting::Wall(now)) => self.wall = *now,
+            Line::Configure { context, setting } => self.configure(context, setting),
+            Line::Clock(setting) => self.wall = wall_after(self.wall, *setting),
             Line::Call { context, call: _ } => {
                 self.called[context.guest as usize] = true;
                 self.trees.close();
             }
-            Line::TreeFault { .. }
-            | Line::Capacity { .. }
-            | Line::Configure { .. }
-            | Line::Worker(_)
-            | Line::Turn(_)
-            | Line::Clock(_) => {}
+            Line::TreeFault { .. } | Line::Capacity { .. } | Line::Worker(_) | Line::Turn(_) => {}
         }
         Ok(())
+    }
+
+    // what a line says of a context
+    fn configure(&mut self, context: &Context, setting: &Setting)
+        requires guest { context.now.guest < 64 }
+        requires named { IfSome context.now.named (λ id. id < 16) }
+        ensures { names_in self.new ≡ record (names_in self.old) { has_preopen = also_given context.now (is_given setting.now) (names_in self.old).has_preopen } }
+    {
+        if is_given(setting) {
+            self.give(context);
+        }
     }
 
     // a context is given a directory

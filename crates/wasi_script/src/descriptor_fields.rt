@@ -1,5 +1,5 @@
 ghost use Rattle.std.specs.Prelude.{◌≡◌, ℕ, Option};
-ghost use Rattle.wasi_script.specs.Descriptors.{path_flags_of, letters_of, open_flag, descriptor_flag, open_flags_of, descriptor_flags_of, seconds_of, instant_by, timestamp_of, advice_of};
+ghost use Rattle.wasi_script.specs.Descriptors.{path_flags_of, letters_of, letters_joined, flag_joined, open_flag, descriptor_flag, open_flags_of, descriptor_flags_of, seconds_of, instant_by, timestamp_of, advice_of};
 
 use bitflags::Flags;
 use wasi_clocks::Instant;
@@ -63,20 +63,34 @@ fn parse_letters<T: Lettered>(word: &[u8]) -> Option<u8>
     ensures { result ≡ letters_of T.flag_of word.now }
 {
     if word.is_empty() {
-        return None;
+        None
+    } else if is(word, b"-") {
+        Some(0)
+    } else {
+        join_letters::<T>(word)
     }
-    if is(word, b"-") {
-        return Some(0);
-    }
+}
+
+#[tactic(auto, using(crate::proofs::LetterFacts::letter_past, crate::proofs::LetterFacts::no_letter, crate::proofs::LetterFacts::letter_again))]
+fn join_letters<T: Lettered>(letters: &[u8]) -> Option<u8>
+    ensures { result ≡ letters_joined T.flag_of 0 letters.now }
+{
     let mut flags = 0;
-    for letter in word {
-        let flag = T::flag(*letter)?;
-        if flags & flag == flag {
-            return None;
-        }
-        flags |= flag;
+    for letter in letters {
+        flags = join_flag(flags, T::flag(*letter)?)?;
     }
     Some(flags)
+}
+
+// one flag more, which is not among those before it
+fn join_flag(flags: u8, flag: u8) -> Option<u8>
+    ensures { result ≡ flag_joined flags flag }
+{
+    if flags & flag == flag {
+        None
+    } else {
+        Some(flags | flag)
+    }
 }
 
 /// How a path is opened: the letters `c`, `d`, `e`, `t`.

@@ -4,10 +4,12 @@ ghost use Rattle.std.specs.Prelude.{◌≡◌, length, IfOk};
 
 mod calls;
 mod contexts;
+mod descriptors;
 mod environment;
 mod generated;
 mod refusals;
 mod tasks;
+mod trees;
 
 use crate::{
     ByteString, Context, Input, InputDeclaration, Line, Name, Output, OutputDeclaration, ReadPlan,

@@ -1,10 +1,13 @@
 ghost use Rattle.std.specs.Prelude.{◌≡◌, ◌∷◌, ◌++◌, [], Some, length, option_map, option_copied, option_and_then, OnOk, OnErr};
+ghost use Rattle.std.specs.List.{position};
 ghost use Rattle.std.specs.Map.{lookup};
 ghost use Rattle.std.specs.Str.{bytes_eq};
 ghost use Rattle.wasi_script.specs.Grammar.{is_among};
 ghost use Rattle.wasi_script.specs.TreeRows.{growing_of};
-ghost use Rattle.wasi_script.specs.Trees.{no_trees, tree_declared, node_declared, trees_closed, with_tree, with_node, nodes_after};
+ghost use Rattle.wasi_script.specs.Trees.{no_trees, tree_declared, node_declared, trees_closed, with_tree, with_node, nodes_after, done_of};
+ghost use Rattle.wasi_script.specs.declared.lines.NewNode.TheVariants as new;
 
+use crate::bytes::ByteString;
 use crate::lines::NewNode;
 use crate::name::Name;
 use std::alloc::Global;
@@ -12,6 +15,7 @@ use std::marker::Model;
 use wasi_base::{OutOfMemory, Text, TrappableError};
 use wasi_clocks::WallTime;
 use wasi_fs::Tree;
+use wasi_fs_types::FilesystemResult;
 use wasi_words::is;
 
 /// The trees that lines declared: the names of all, and what stands in them while lines may add to
@@ -113,19 +117,20 @@ impl Trees {
     }
 }
 
-fn place_of(rows: &[Row], name: &[u8]) -> Option<usize> {
+// the place of the first row of a name
+fn place_of(rows: &[Row], name: &[u8]) -> Option<usize>
+    ensures { result ≡ position (λ row. bytes_eq name.now row.name) rows.now }
+{
     rows.iter().position(|row| is(name, row.name.as_bytes()))
 }
 
 fn find<'a>(rows: &'a [Row], name: &[u8]) -> Option<&'a Tree>
     ensures { option_map (λ tree. tree.nodes) (option_copied result) ≡ lookup (bytes_eq name.now) (growing_of rows.now) }
 {
-    for row in rows {
-        if is(name, row.name.as_bytes()) {
-            return Some(&row.tree);
-        }
+    match place_of(rows, name) {
+        Some(place) => Some(&rows[place].tree),
+        None => None,
     }
-    None
 }
 
 // a tree of its root alone, while lines may add to it
@@ -136,7 +141,7 @@ fn plant(
     now: WallTime,
 ) -> Result<(), OutOfMemory>
     ensures ok { OnOk result (option_map (λ rows. growing_of rows.items) growing.new ≡ option_map (λ rows. with_tree name.now now (growing_of rows.items)) growing.old) }
-    ensures err { OnErr result (growing.new ≡ growing.old) }
+    ensures err { OnErr result (option_map (λ rows. growing_of rows.items) growing.new ≡ option_map (λ rows. growing_of rows.items) growing.old) }
 {
     match growing {
         Some(rows) => push_tree(alloc, rows, name, now),
@@ -151,7 +156,7 @@ fn push_tree(
     now: WallTime,
 ) -> Result<(), OutOfMemory>
     ensures ok { OnOk result (growing_of rows.new.items ≡ with_tree name.now now (growing_of rows.old.items)) }
-    ensures err { OnErr result (rows.new ≡ rows.old) }
+    ensures err { OnErr result (growing_of rows.new.items ≡ growing_of rows.old.items) }
 {
     let name = name.copy(alloc)?;
     let tree = Tree::new(alloc, 0, now)?;
@@ -168,7 +173,7 @@ fn grow(
     now: WallTime,
 ) -> Result<(), OutOfMemory>
     ensures ok { OnOk result (growing_of rows.new.items ≡ with_node name.now path.now node.now now (growing_of rows.old.items)) }
-    ensures err { OnErr result (rows.new ≡ rows.old) }
+    ensures err { OnErr result (growing_of rows.new.items ≡ growing_of rows.old.items) }
 {
     match place_of(rows.as_slice(), name) {
         Some(place) => add_to(alloc, &mut rows[place].tree, path.as_str(), node, now),
@@ -176,6 +181,7 @@ fn grow(
     }
 }
 
+#[tactic(auto, using(crate::proofs::TreeFacts::left_ok, crate::proofs::TreeFacts::left_err))]
 fn add_to(
     alloc: Global,
     tree: &mut Tree,
@@ -186,11 +192,34 @@ fn add_to(
     ensures ok { OnOk result (tree.new.nodes ≡ nodes_after tree.old.nodes path.now node.now now) }
     ensures err { OnErr result (tree.new ≡ tree.old) }
 {
-    let outcome = match node {
-        NewNode::Directory => tree.add_dir(path, now),
-        NewNode::File(bytes) => tree.add_file(path, bytes.to_vec(alloc)?.as_slice(), now),
-        NewNode::Link(text) => tree.add_link(path, text.as_str(), now),
-    };
+    match node {
+        NewNode::Directory => done(tree.add_dir(path, now)),
+        NewNode::File(bytes) => add_file(alloc, tree, path, bytes, now),
+        NewNode::Link(text) => done(tree.add_link(path, text.as_str(), now)),
+    }
+}
+
+#[tactic(auto, using(crate::proofs::TreeFacts::left_ok, crate::proofs::TreeFacts::left_err))]
+fn add_file(
+    alloc: Global,
+    tree: &mut Tree,
+    path: &str,
+    bytes: &ByteString,
+    now: WallTime,
+) -> Result<(), OutOfMemory>
+    ensures ok { OnOk result (tree.new.nodes ≡ nodes_after tree.old.nodes path.now (new.File bytes.now) now) }
+    ensures err { OnErr result (tree.new ≡ tree.old) }
+{
+    match bytes.to_vec(alloc) {
+        Ok(bytes) => done(tree.add_file(path, bytes.as_slice(), now)),
+        Err(error) => Err(error),
+    }
+}
+
+// a node that is refused is not added
+fn done(outcome: FilesystemResult<()>) -> Result<(), OutOfMemory>
+    ensures { result ≡ done_of outcome }
+{
     match outcome {
         Ok(()) | Err(TrappableError::Normal(_)) => Ok(()),
         Err(TrappableError::Trap(_) | TrappableError::OutOfMemory) => Err(OutOfMemory),
