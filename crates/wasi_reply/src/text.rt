@@ -21,6 +21,16 @@ fn push_word(text: &mut Vec<u8>, word: &[u8]) -> Result<(), OutOfMemory>
     Ok(())
 }
 
+fn push_name(text: &mut Vec<u8>, word: &[u8], name: &str) -> Result<(), OutOfMemory>
+    ensures ok { OnOk result (text.new.items ≡ text.old.items ++ (word.now ++ (codes " " ++ name.now))) }
+    ensures err { OnErr result (take (length text.old.items) text.new.items ≡ text.old.items) }
+{
+    text.extend_from_slice(word)?;
+    text.push(b' ')?;
+    text.extend_from_slice(name.as_bytes())?;
+    Ok(())
+}
+
 fn push_number(text: &mut Vec<u8>, word: &[u8], number: u64) -> Result<(), OutOfMemory>
     ensures ok { OnOk result (text.new.items ≡ text.old.items ++ worded (word.now, Field.Number number ∷ [])) }
     ensures err { OnErr result (take (length text.old.items) text.new.items ≡ text.old.items) }
@@ -131,7 +141,7 @@ fn push_directory(text: &mut Vec<u8>, directory: &(u32, Text)) -> Result<(), Out
     push_digits_or_dash(text, directory.1.as_str().as_bytes())
 }
 
-// how many bytes the item may take with the byte before it
+// at least as many bytes as the item takes with the byte before it
 fn room_for(directory: &(u32, Text)) -> usize
     ensures in_range { IsDirectory directory.now }
 {
@@ -174,6 +184,13 @@ fn push_directories(
     Ok(())
 }
 
+fn push_kind(text: &mut Vec<u8>, word: &[u8], kind: IoKind) -> Result<(), OutOfMemory>
+    ensures ok { OnOk result (text.new.items ≡ text.old.items ++ worded (word.now, Field.Kind kind ∷ [])) }
+    ensures err { OnErr result (take (length text.old.items) text.new.items ≡ text.old.items) }
+{
+    push_name(text, word, kind.name())
+}
+
 fn push_code(text: &mut Vec<u8>, word: &[u8], code: ErrorCode) -> Result<(), OutOfMemory>
     ensures ok { OnOk result (text.new.items ≡ text.old.items ++ worded (word.now, Field.Code code ∷ [])) }
     ensures err { OnErr result (take (length text.old.items) text.new.items ≡ text.old.items) }
@@ -181,7 +198,7 @@ fn push_code(text: &mut Vec<u8>, word: &[u8], code: ErrorCode) -> Result<(), Out
     push_name(text, word, code.name())
 }
 
-fn name_of<'a>(type_: DescriptorType) -> &'a str
+fn name_of(type_: DescriptorType) -> &'static str
     ensures { result.now ≡ type_name type_ }
 {
     match type_ {
@@ -201,7 +218,7 @@ fn push_type(text: &mut Vec<u8>, word: &[u8], type_: DescriptorType) -> Result<(
     push_name(text, word, name_of(type_))
 }
 
-fn letters_of<'a>(read: bool, write: bool, mutate_directory: bool) -> &'a str
+fn letters_of(read: bool, write: bool, mutate_directory: bool) -> &'static str
     ensures { result.now ≡ flags_text read write mutate_directory }
 {
     match (read, write, mutate_directory) {
@@ -277,23 +294,6 @@ fn push_stat(text: &mut Vec<u8>, word: &[u8], stat: &DescriptorStat) -> Result<(
     let node = push_node(text, word, stat.type_, stat.link_count, stat.size);
     let times = push_times(text, stat);
     node.and(times)
-}
-
-fn push_name(text: &mut Vec<u8>, word: &[u8], name: &str) -> Result<(), OutOfMemory>
-    ensures ok { OnOk result (text.new.items ≡ text.old.items ++ (word.now ++ (codes " " ++ name.now))) }
-    ensures err { OnErr result (take (length text.old.items) text.new.items ≡ text.old.items) }
-{
-    text.extend_from_slice(word)?;
-    text.push(b' ')?;
-    text.extend_from_slice(name.as_bytes())?;
-    Ok(())
-}
-
-fn push_kind(text: &mut Vec<u8>, word: &[u8], kind: IoKind) -> Result<(), OutOfMemory>
-    ensures ok { OnOk result (text.new.items ≡ text.old.items ++ worded (word.now, Field.Kind kind ∷ [])) }
-    ensures err { OnErr result (take (length text.old.items) text.new.items ≡ text.old.items) }
-{
-    push_name(text, word, kind.name())
 }
 
 fn push_trap(

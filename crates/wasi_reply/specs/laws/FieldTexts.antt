@@ -35,31 +35,31 @@ pub lacks-hex : (byte : ℕ) (bytes : List ℕ) → 0 < byte → has byte (codes
 lacks-hex byte [] above dash digits = lacking byte (codes "-") dash
 lacks-hex byte (first ∷ bytes) above dash digits = lacks-encoded byte (first ∷ bytes) above (lacking byte lower_digits digits)
 
--- neither a line's end nor a space
-abbrev IsPlain : List ℕ → Type 0
-IsPlain name = (has 10 name ≡ false) × (has 32 name ≡ false)
+-- a word holds neither a line's end nor a space
+abbrev pub IsWord : List ℕ → Type 0
+IsWord word = (has 10 word ≡ false) × (has 32 word ≡ false)
 
-plain-kind : (kind : IoKind) → IsPlain (kind_name kind)
-plain-kind kind.BrokenPipe = (refl, refl)
-plain-kind _ = (refl, refl)
+kind_word : (kind : IoKind) → IsWord (kind_name kind)
+kind_word kind.BrokenPipe = (refl, refl)
+kind_word _ = (refl, refl)
 
-plain-code : (code : ErrorCode) → IsPlain (code_name code)
-plain-code code.Access = (refl, refl)
-plain-code _ = (refl, refl)
+code_word : (code : ErrorCode) → IsWord (code_name code)
+code_word code.Access = (refl, refl)
+code_word _ = (refl, refl)
 
-plain-type : (type_ : DescriptorType) → IsPlain (type_name type_)
-plain-type node.Unknown = (refl, refl)
-plain-type _ = (refl, refl)
+type_word : (type_ : DescriptorType) → IsWord (type_name type_)
+type_word node.Unknown = (refl, refl)
+type_word _ = (refl, refl)
 
-plain-flags : (read write mutate : Bool) → IsPlain (flags_text read write mutate)
-plain-flags false false false = (refl, refl)
-plain-flags false false true = (refl, refl)
-plain-flags false true false = (refl, refl)
-plain-flags false true true = (refl, refl)
-plain-flags true false false = (refl, refl)
-plain-flags true false true = (refl, refl)
-plain-flags true true false = (refl, refl)
-plain-flags true true true = (refl, refl)
+flags_word : (read write mutate : Bool) → IsWord (flags_text read write mutate)
+flags_word false false false = (refl, refl)
+flags_word false false true = (refl, refl)
+flags_word false true false = (refl, refl)
+flags_word false true true = (refl, refl)
+flags_word true false false = (refl, refl)
+flags_word true false true = (refl, refl)
+flags_word true true false = (refl, refl)
+flags_word true true true = (refl, refl)
 
 lacks-time : (byte : ℕ) (time : Option Datetime) → byte < 45 → has byte (codes "none") ≡ false → Lacks byte (time_text time)
 lacks-time byte None below none = lacking byte (codes "none") none
@@ -100,10 +100,10 @@ lacks-directories byte (first ∷ directories) above below dash digits = (lacks-
 pub field_line : (field : Field) → Lacks 10 (field_text field)
 field_line (Field.Number number) = (omega arith, lacks-decimal 10 number (omega arith))
 field_line (Field.Hex bytes) = (omega arith, lacks-hex 10 bytes (omega arith) refl refl)
-field_line (Field.Kind kind) = (omega arith, lacking 10 (kind_name kind) (plain-kind kind).0)
-field_line (Field.Code code) = (omega arith, lacking 10 (code_name code) (plain-code code).0)
-field_line (Field.NodeType type_) = (omega arith, lacking 10 (type_name type_) (plain-type type_).0)
-field_line (Field.Flags read write mutate) = (omega arith, lacking 10 (flags_text read write mutate) (plain-flags read write mutate).0)
+field_line (Field.Kind kind) = (omega arith, lacking 10 (kind_name kind) (kind_word kind).0)
+field_line (Field.Code code) = (omega arith, lacking 10 (code_name code) (code_word code).0)
+field_line (Field.NodeType type_) = (omega arith, lacking 10 (type_name type_) (type_word type_).0)
+field_line (Field.Flags read write mutate) = (omega arith, lacking 10 (flags_text read write mutate) (flags_word read write mutate).0)
 field_line (Field.Time time) = (omega arith, lacks-time 10 time (omega arith) refl)
 field_line (Field.Trap trap) = (omega arith, lacks-trap trap)
 field_line (Field.Texts texts) = lacks-items 10 (map hex_of texts) (omega arith) (lacks-texts 10 texts (omega arith) refl refl)
@@ -132,10 +132,10 @@ word_of other = []
 pub field_word : (field : Field) → closes field ≡ false → (field_text field ≡ 32 ∷ word_of field) × Lacks 32 (word_of field)
 field_word (Field.Number number) e = (refl, lacks-decimal 32 number (omega arith))
 field_word (Field.Hex bytes) e = (refl, lacks-hex 32 bytes (omega arith) refl refl)
-field_word (Field.Kind kind) e = (refl, lacking 32 (kind_name kind) (plain-kind kind).1)
-field_word (Field.Code code) e = (refl, lacking 32 (code_name code) (plain-code code).1)
-field_word (Field.NodeType type_) e = (refl, lacking 32 (type_name type_) (plain-type type_).1)
-field_word (Field.Flags read write mutate) e = (refl, lacking 32 (flags_text read write mutate) (plain-flags read write mutate).1)
+field_word (Field.Kind kind) e = (refl, lacking 32 (kind_name kind) (kind_word kind).1)
+field_word (Field.Code code) e = (refl, lacking 32 (code_name code) (code_word code).1)
+field_word (Field.NodeType type_) e = (refl, lacking 32 (type_name type_) (type_word type_).1)
+field_word (Field.Flags read write mutate) e = (refl, lacking 32 (flags_text read write mutate) (flags_word read write mutate).1)
 field_word (Field.Time time) e = (refl, lacks-time 32 time (omega arith) refl)
 field_word other e = absurd (cc)
 
