@@ -153,6 +153,7 @@ block_sound (Some since) s g n parent answer s' sound h = waited_sound (nat_lt s
 by_told : (P : Answer → Type 0) (Q : Type 0) (answer : Reply) → ((it : Answer) → answer ≡ reply.Told it → P it → Q) → Tells P answer → Q
 by_told P Q (reply.Told it) then h = then it refl h
 by_told P Q (reply.Handle n) then h = absurd h
+by_told P Q (reply.Directories rows) then h = absurd h
 by_told P Q reply.Ended then h = absurd h
 by_told P Q (reply.Worked it) then h = absurd h
 

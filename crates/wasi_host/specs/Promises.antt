@@ -4,7 +4,7 @@ use Rattle.std.specs.List.{AllByRecursion}
 use Rattle.std.specs.Map.{lookup}
 use Rattle.std.specs.Option.{option_map, option_and_then}
 use Rattle.std.specs.Str.{bytes_eq}
-use Rattle.wasi_base.specs.Source.{Told as Told'}
+use Rattle.wasi_base.specs.Source.{Told as Told', Given}
 use Rattle.wasi_script.specs.declared.lines.Standard.{Standard}
 use Rattle.wasi_script.specs.declared.lines.Standard.TheVariants as standard
 use Rattle.wasi_script.specs.declared.lines.EntryCall.{EntryCall}
@@ -31,10 +31,16 @@ use Rattle.wasi_host.specs.declared.stream.OutStream.TheVariants as out_stream
 use Rattle.wasi_host.specs.Contexts.{ByContext, has_context, at_context, same_context}
 use Rattle.wasi_host.specs.OutStreams.{taken_of}
 use Rattle.wasi_host.specs.Deeds.{Own, entry_at, act, apart}
-use Rattle.wasi_fs.specs.Trees.{TreeState}
+use Rattle.wasi_clocks.specs.declared.wall_times.WallTime.{WallTime}
+use Rattle.wasi_fs.specs.Trees.{TreeState, IsOf, KeepsDescriptors}
+use Rattle.wasi_fs.specs.declared.descriptor.Descriptor.{Descriptor}
+use Rattle.wasi_fs_calls.specs.declared.call.DescriptorCall.{DescriptorCall}
+use Rattle.wasi_host.specs.declared.deed.Deed.{Deed}
+use Rattle.wasi_host.specs.declared.deed.Deed.TheVariants.{Make}
+use Rattle.wasi_host.specs.Descriptors.{filed}
 use Rattle.wasi_host.specs.Preopens.{tree_name}
 use Rattle.wasi_host.specs.Calls.{Settings, Owner, sent}
-use Rattle.wasi_host.specs.Host.{Guest, Host, CallRules, no_tree, host_end, new_host, step_reply, step_host, step_told, guest_of, answer, called_in, Named, taken_out, put_back}
+use Rattle.wasi_host.specs.Host.{Guest, Host, CallRules, no_tree, tree_at, host_after, host_end, new_host, step_reply, step_host, step_told, guest_of, answer, called_in, Named, taken_out, put_back}
 use Rattle.wasi_host.specs.View.{input_names, output_names, tree_names, uses_input, uses_output, view, IsApart, replies_seen, outputs_seen, GuestsAreAlone}
 use Rattle.wasi_host.specs.Transcript.{ShowsRun, transcript, told_after_run, outputs_of}
 
@@ -111,6 +117,18 @@ OutputsArePutBack = (name : List ℕ) (outputs : Named OutStream) → PutsBack o
 
 abbrev pub TreesArePutBack : Type 0
 TreesArePutBack = (name : List ℕ) (trees : Named TreeState) → PutsBack no_tree name trees
+
+-- ---- what trees come to: whatever the step, each descriptor of a tree stays one, so that its node stays what it is ..
+abbrev pub TreesKeepDescriptors : Type 0
+TreesKeepDescriptors = (step : Line) (host : Host) (given : Given) (name : Option (List ℕ)) → KeepsDescriptors (tree_at name host.streams) (tree_at name (host_after step host given).streams)
+
+-- .. and one that a call makes is of the tree that the call leaves
+abbrev pub IsMadeOf : TreeState → Deed → Type 0
+IsMadeOf tree (Make (entry.Descriptor context preopen it) parent) = IsOf tree it
+IsMadeOf tree other = Unit {0}
+
+abbrev pub DescriptorsAreMade : Type 0
+DescriptorsAreMade = (now : WallTime) (it : DescriptorCall) (blocking : Bool) (context : Option ℕ) (preopen : ℕ) (called : Descriptor) (tree : TreeState) → let done = filed now it blocking context preopen called tree in IsMadeOf done.left done.deed
 
 -- ---- isolation: two scripts of which a guest sees the same give it the same replies, but for the places of trees, and the
 -- same bytes in its outputs, whatever their shared inputs tell

@@ -15,4 +15,6 @@ pub mod Walk
 pub mod Filled
 pub mod Buffered
 pub mod TurnEnds
+pub mod TreeTraps
 pub mod Traps
+pub mod TreesKept

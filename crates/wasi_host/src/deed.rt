@@ -1,5 +1,7 @@
-ghost use Rattle.std.specs.Prelude.{◌≡◌};
-ghost use Rattle.wasi_host.specs.Deeds.{is_on_shared};
+ghost use Rattle.std.specs.Prelude.{◌≡◌, ℕ, List};
+ghost use Rattle.std.specs.List.{list_any};
+ghost use Rattle.wasi_host.specs.declared.entry.Entry.{Entry};
+ghost use Rattle.wasi_host.specs.Deeds.{is_on_shared, is_shared};
 
 use crate::Entry;
 use std::marker::Model;
@@ -35,6 +37,12 @@ impl NewEntries {
     }
 }
 
+fn any_shared(entries: &[(Entry, Text)]) -> bool
+    ensures { result ≡ list_any (λ (it : Entry × List ℕ). is_shared it.0) entries.now }
+{
+    entries.iter().any(|it| it.0.is_shared())
+}
+
 /// What is to be done for a call of a guest, and what it is told then.
 #[derive(Drop)]
 pub enum Deed {
@@ -63,7 +71,7 @@ impl Deed {
         match self {
             Deed::Tell(_) => false,
             Deed::Make { entry, .. } | Deed::Change { entry, .. } => entry.is_shared(),
-            Deed::MakeEach(entries) => entries.kept.iter().any(|it| it.0.is_shared()),
+            Deed::MakeEach(entries) => any_shared(entries.kept.as_slice()),
         }
     }
 }

@@ -129,10 +129,8 @@ impl Entry {
                     ..
                 }
             ),
-            Entry::Shared(_)
-            | Entry::Stream { .. }
-            | Entry::Own(_)
-            | Entry::Descriptor { .. } => false,
+            Entry::Shared(_) | Entry::Stream { .. } | Entry::Own(_) | Entry::Descriptor { .. } =>
+                false,
         }
     }
 

@@ -18,6 +18,12 @@ same_contexts : (of : Option ℕ) → same_context of of ≡ true
 same_contexts None = refl
 same_contexts (Some id) = same_ids id
 
+pub context_is : (of other : Option ℕ) → same_context of other ≡ true → of ≡ other
+context_is None None e = refl
+context_is (Some id) (Some other) e = ap Some (let same : id ≡ other = grind (arith, nat_tests) in same)
+context_is None (Some other) e = absurd (true≢false (sym e))
+context_is (Some id) None e = absurd (true≢false (sym e))
+
 same_standards : (to : Standard) → same_standard to to ≡ true
 same_standards standard.Input = refl
 same_standards standard.Output = refl
@@ -207,6 +213,18 @@ module _ {A : Type 0} where
       by : (other : Option ℕ) → same_context other (Some id) ≡ false → at_context other (record all { named = set_value (nat_eq id) all.named it }) ≡ at_context other all
       by None apart = refl
       by (Some other) apart = ap (λ (o : Option A). unwrap_or o all.main) (found_set all.named id other it ∙ by_id other (nat_eq id other) apart refl (lookup (nat_eq other) all.named))
+
+  -- what is put is there
+  pub at_put : (of : Option ℕ) (it : A) (all : ByContext A) → has_context of all ≡ true → at_context of (put_context of it all) ≡ it
+  at_put None it all there = refl
+  at_put (Some id) it all there =
+      ap (λ b. at_context (Some id) (cond b (record all { named = set_value (nat_eq id) all.named it }) (record all { main = it }))) there
+      ∙ ap (λ (o : Option A). unwrap_or o all.main) (found_set all.named id id it) ∙ by (nat_eq id id) (same_ids id) (lookup (nat_eq id) all.named) there
+    where
+      by : (b : Bool) → b ≡ true → (o : Option A) → is_some o ≡ true → unwrap_or (option_map (λ (x : A). cond b it x) o) all.main ≡ it
+      by true same (Some x) there = refl
+      by true same None there = absurd (true≢false (sym there))
+      by false same o there = absurd (true≢false (sym same))
 
   -- ---- one more
   found_more : (rows : List (ℕ × A)) (id other : ℕ) (it : A) → lookup (nat_eq id) rows ≡ None → lookup (nat_eq other) (rows ++ (id, it) ∷ []) ≡ cond (nat_eq other id) (Some it) (lookup (nat_eq other) rows)

@@ -219,6 +219,9 @@ worker_on input turn.Deliver host told at =
 pub step_on : (input : List ℕ) (step : Line) (host : Host) (told : Told) (at : At input host told) → may_stand (names_of host) step ≡ true → StepOn input step host told at
 step_on input (line.Input name it) host told at fits = record { next = record { front = at.front; live = at.live; input_is = at.input_is; sound = at.sound; owned = at.owned; places = at.places }; front_is = sym (append-nil at.front); rule = (refl, refl) }
 step_on input (line.Output name it) host told at fits = record { next = record { front = at.front; live = at.live; input_is = at.input_is; sound = at.sound; owned = at.owned; places = at.places }; front_is = sym (append-nil at.front); rule = (refl, refl) }
+step_on input (line.Tree name) host told at fits = record { next = record { front = at.front; live = at.live; input_is = at.input_is; sound = at.sound; owned = at.owned; places = at.places }; front_is = sym (append-nil at.front); rule = (refl, refl) }
+step_on input (line.Node tree path it) host told at fits = record { next = record { front = at.front; live = at.live; input_is = at.input_is; sound = at.sound; owned = at.owned; places = at.places }; front_is = sym (append-nil at.front); rule = (refl, refl) }
+step_on input (line.TreeFault tree kind) host told at fits = record { next = record { front = at.front; live = at.live; input_is = at.input_is; sound = at.sound; owned = at.owned; places = at.places }; front_is = sym (append-nil at.front); rule = (refl, refl) }
 step_on input (line.Guest n reads) host told at fits =
     let below : n < length host.guests = rw at.places (grind (arith, nat_tests, fits)) in
     let new : guests_of host.guests n ≡ None = none_of (guests_of host.guests n) (grind (arith, nat_tests, fits)) in

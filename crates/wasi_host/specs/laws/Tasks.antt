@@ -1,5 +1,5 @@
 -- Which streams have a task, and which are standard outputs: no step changes that of a declared stream.
-use Rattle.std.proofs.Common.{◌≡◌, ℕ, Bool, true, false, cond, List, [], ◌∷◌, ◌++◌, Option, Some, None, refl, ap, sym, ◌∙◌}
+use Rattle.std.proofs.Common.{◌≡◌, ℕ, Bool, true, false, cond, List, [], ◌∷◌, ◌++◌, Option, Some, None, refl, ap, sym, subst, ◌∙◌}
 use Rattle.std.specs.Prelude.{unwrap_or, nat_eq}
 use Rattle.std.specs.Map.{lookup}
 use Rattle.std.specs.Str.{bytes_eq}
@@ -42,7 +42,9 @@ use Rattle.wasi_cli.specs.declared.stdout_handle.StdoutHandle.{StdoutHandle}
 use Rattle.wasi_host.specs.declared.leaver.Leaver.{Leaver}
 use Rattle.wasi_host.specs.declared.leaver.Leaver.TheVariants as leaver
 use Rattle.wasi_reply.specs.Reply.{ends}
-use Rattle.wasi_host.specs.Host.{Named, Guest, Streams, CallRules, the_calls, the_rules, new_input, new_output, taken_out, put_back, input_at, put_input, output_at, put_output, answer_at, answer_to, answer_by, answer_in, after_task, is_reader, is_writer, is_process, reads_ahead_in, writes_behind_in, has_stdio_in, leave_input, leave_output, leave_entry, leave_context, leave_each, leave_all, names_in}
+use Rattle.wasi_fs.specs.Trees.{TreeState}
+use Rattle.wasi_host.specs.laws.OnTrees.{descriptor_on, pair_on}
+use Rattle.wasi_host.specs.Host.{Named, Guest, Streams, Answered, put_tree, CallRules, the_calls, the_rules, new_input, new_output, taken_out, put_back, input_at, put_input, output_at, put_output, answer_at, answer_to, answer_by, answer_in, after_task, is_reader, is_writer, is_process, reads_ahead_in, writes_behind_in, has_stdio_in, leave_input, leave_output, leave_entry, leave_context, leave_each, leave_all, names_in}
 
 -- ---- a call or a turn leaves a stream of its kind
 read_kind : (size : ℕ) (s : InStream) → is_reader (Some (after_input_read s size)) ≡ is_reader (Some s)
@@ -232,6 +234,7 @@ entry_kinds : (who : Leaver) (o : Option Entry) (settings : ByContext Settings) 
 entry_kinds who None settings streams = record { reads = λ name. refl; writes = λ name. refl; stdio = λ name. refl }
 entry_kinds who (Some (entry.Shared e)) settings streams = record { reads = λ name. refl; writes = λ name. refl; stdio = λ name. refl }
 entry_kinds who (Some (entry.Own e)) settings streams = record { reads = λ name. refl; writes = λ name. refl; stdio = λ name. refl }
+entry_kinds who (Some (entry.Descriptor of preopen e)) settings streams = record { reads = λ name. refl; writes = λ name. refl; stdio = λ name. refl }
 entry_kinds who (Some (entry.Stream of standard.Input e)) settings streams = leave_input_kinds who (at_context of settings).input streams
 entry_kinds who (Some (entry.Stream of standard.Output e)) settings streams = leave_output_kinds who (at_context of settings).stdout streams
 entry_kinds who (Some (entry.Stream of standard.Error e)) settings streams = leave_output_kinds who (at_context of settings).stderr streams
@@ -257,10 +260,17 @@ at_kinds clocks it at (Some (entry.Stream of standard.Input e)) guest s streams 
 at_kinds clocks it at (Some (entry.Stream of standard.Output e)) guest s streams = output_kinds (at_context of guest.settings).stdout (λ s. (sent it of standard.Output at e s).left) (sent_sort it of standard.Output at e) streams
 at_kinds clocks it at (Some (entry.Stream of standard.Error e)) guest s streams = output_kinds (at_context of guest.settings).stderr (λ s. (sent it of standard.Error at e s).left) (sent_sort it of standard.Error at e) streams
 at_kinds clocks it at (Some (entry.Own e)) guest s streams = record { reads = λ name. refl; writes = λ name. refl; stdio = λ name. refl }
+at_kinds clocks it at (Some (entry.Descriptor of preopen e)) guest s streams = record { reads = λ name. refl; writes = λ name. refl; stdio = λ name. refl }
+
+tree_kinds : (name : Option (List ℕ)) (it : TreeState) (streams : Streams) → SameKinds (put_tree name it streams) streams
+tree_kinds None it streams = record { reads = λ name. refl; writes = λ name. refl; stdio = λ name. refl }
+tree_kinds (Some n) it streams = record { reads = λ name. refl; writes = λ name. refl; stdio = λ name. refl }
 
 to_kinds : (clocks : Clocks) (c : Call) (g : ℕ) (of : Option ℕ) (guest : Guest) (s : Shared) (streams : Streams) → SameKinds (answer_to (the_calls clocks) c g of guest s streams).streams streams
 to_kinds clocks (call.On n it) g of guest s streams = at_kinds clocks it (record { guest = g; number = n }) (entry_at guest.own n) guest s streams
 to_kinds clocks (call.Drop n) g of guest s streams = entry_kinds (leaver.Entry (record { guest = g; number = n })) (entry_at guest.own n) guest.settings streams
+to_kinds clocks (call.Descriptor n it) g of guest s streams = let on = descriptor_on (the_calls clocks) it (at_context of guest.settings).blocking (entry_at guest.own n) guest s streams in subst (λ (done : Answered). SameKinds done.streams streams) on.is (tree_kinds on.name on.left streams)
+to_kinds clocks (call.Pair n to it) g of guest s streams = let on = pair_on (the_calls clocks) it (entry_at guest.own n) (entry_at guest.own to) guest s streams in subst (λ (done : Answered). SameKinds done.streams streams) on.is (tree_kinds on.name on.left streams)
 to_kinds clocks other g of guest s streams = record { reads = λ name. refl; writes = λ name. refl; stdio = λ name. refl }
 
 by_kinds : (clocks : Clocks) (b : Bool) (c : Call) (g : ℕ) (of : Option ℕ) (guest : Guest) (s : Shared) (streams : Streams) → SameKinds (answer_by b (the_calls clocks) c g of guest s streams).streams streams
@@ -283,6 +293,7 @@ at_settings rules it at (Some (entry.Stream of standard.Input e)) guest s stream
 at_settings rules it at (Some (entry.Stream of standard.Output e)) guest s streams = refl
 at_settings rules it at (Some (entry.Stream of standard.Error e)) guest s streams = refl
 at_settings rules it at (Some (entry.Own e)) guest s streams = refl
+at_settings rules it at (Some (entry.Descriptor of preopen e)) guest s streams = refl
 
 to_settings : (rules : CallRules) (c : Call) (g : ℕ) (of : Option ℕ) (guest : Guest) (s : Shared) (streams : Streams) → (answer_to rules c g of guest s streams).guest.settings ≡ guest.settings
 to_settings rules (call.On n it) g of guest s streams = at_settings rules it (record { guest = g; number = n }) (entry_at guest.own n) guest s streams
@@ -291,6 +302,8 @@ to_settings rules (call.Drop n) g of guest s streams = refl
 to_settings rules (call.Terminal it) g of guest s streams = refl
 to_settings rules (call.Own it) g of guest s streams = refl
 to_settings rules (call.Random it) g of guest s streams = refl
+to_settings rules (call.Descriptor n it) g of guest s streams = let on = descriptor_on rules it (at_context of guest.settings).blocking (entry_at guest.own n) guest s streams in ap (λ (done : Answered). done.guest.settings) (sym on.is)
+to_settings rules (call.Pair n to it) g of guest s streams = let on = pair_on rules it (entry_at guest.own n) (entry_at guest.own to) guest s streams in ap (λ (done : Answered). done.guest.settings) (sym on.is)
 
 pub call_settings : (rules : CallRules) (b : Bool) (c : Call) (g : ℕ) (of : Option ℕ) (guest : Guest) (s : Shared) (streams : Streams) → (answer_by b rules c g of guest s streams).guest.settings ≡ guest.settings
 call_settings rules true c g of guest s streams = refl

@@ -1,9 +1,9 @@
 -- A trap or an exit stays with its guest: no rule changes what a call is on and then traps, and what a guest that ended leaves
 -- of a stream is all but its turns.
-use Rattle.std.proofs.Common.{◌≡◌, ℕ, zero, suc, Bool, true, false, cond, List, [], ◌∷◌, length, get_or, Option, Some, None, Result, Ok, Err, refl, ap, sym, subst, ◌∙◌, true≢false}
+use Rattle.std.proofs.Common.{◌≡◌, ℕ, zero, suc, ◌+◌, Bool, true, false, cond, List, [], ◌∷◌, length, get_or, Option, Some, None, Result, Ok, Err, refl, ap, sym, subst, ◌∙◌, true≢false}
 use Rattle.std.specs.Prelude.{is_some, unwrap_or, nat_eq, nat_lt, ◌||◌, if◌then◌else◌}
 use Rattle.std.specs.Map.{lookup, set_value}
-use Rattle.std.specs.List.{list_any}
+use Rattle.std.specs.List.{list_all, list_any}
 use Rattle.std.specs.Option.{option_map, option_and_then}
 use Rattle.std.specs.Str.{bytes_eq}
 use Rattle.std.proofs.lemmas.Bool.{ne_eqb, eq-eqb}
@@ -67,24 +67,30 @@ use Rattle.wasi_host.specs.declared.stream.InStream.TheVariants as in_stream
 use Rattle.wasi_host.specs.declared.stream.OutStream.{OutStream}
 use Rattle.wasi_host.specs.declared.stream.OutStream.TheVariants as out_stream
 use Rattle.wasi_host.specs.declared.deed.Deed.{Deed}
-use Rattle.wasi_host.specs.declared.deed.Deed.TheVariants.{Tell, Make, Change}
+use Rattle.wasi_host.specs.declared.deed.Deed.TheVariants.{Tell, Make, MakeEach, Change}
 use Rattle.wasi_host.specs.declared.leaver.Leaver.{Leaver}
 use Rattle.wasi_host.specs.declared.leaver.Leaver.TheVariants as leaver
 use Rattle.wasi_host.specs.InStreams.{input_read, input_skip, after_input_read, input_poll_read, input_without}
 use Rattle.wasi_host.specs.OutStreams.{output_check_write, after_output_check_write, output_write, after_output_write, output_flush, after_output_flush, output_poll_write, output_poll_flush, output_without}
 use Rattle.wasi_host.specs.Random.{Drawn, Sources, draw, drawn}
 use Rattle.wasi_host.specs.Contexts.{ByContext, at_context, put_context}
-use Rattle.wasi_host.specs.Deeds.{Own, Done, only_told, trapped, entry_at, made, may_make, may_change, with_kept, act, dropped, dropped_at, apart}
+use Rattle.wasi_host.specs.Deeds.{Own, Done, only_told, trapped, entry_at, stands_alone, made, handles_made, with_each, each_made, may_make, may_change, with_kept, act, dropped, dropped_at, apart}
 use Rattle.wasi_host.specs.Clocks.{Clocks}
 use Rattle.wasi_host.specs.Calls.{Settings, opened_terminal, asked, called, sent, polled_read, polled_write, polled_flush, reading_told, skipped_told, polling_told, error_told, result_told, poll_told, is_done}
-use Rattle.wasi_host.specs.Host.{Named, Guest, Streams, Host, Answered, the_calls, taken_out, put_back, input_at, put_input, output_at, put_output, settled, left_guest, leave_input, leave_output, leave_entry, leave_context, leave_each, leave_all, guest_of, answer_at, answer_to, answer_by, answer_in, answer, reply_to, host_after}
+use Rattle.wasi_host.specs.Host.{Named, Guest, Streams, Host, Answered, put_tree, descriptor_at, second_at, pair_at, the_calls, taken_out, put_back, input_at, put_input, output_at, put_output, settled, left_guest, leave_input, leave_output, leave_entry, leave_context, leave_each, leave_all, guest_of, answer_at, answer_to, answer_by, answer_in, answer, reply_to, host_after}
 use Rattle.wasi_host.specs.View.{input_names, output_names, uses_input, uses_output}
-use Rattle.wasi_host.specs.Traps.{input_but_turn, output_but_turn, input_turn, output_turn, StreamLivesOn, ended_guest, StaysWithGuest, StaysWithCaller, number_in, IsRefused}
+use Rattle.wasi_host.specs.Traps.{input_but_turn, output_but_turn, input_turn, output_turn, StreamLivesOn, ended_guest, StaysWithGuest, TreesStay, StaysWithCaller, number_in, IsRefused}
 use Rattle.wasi_host.specs.laws.Contexts.{same_streams, asked_any, put_same}
 use Rattle.wasi_host.specs.laws.Shown.{get_set}
 use Rattle.wasi_host.specs.laws.Steps.{within}
-use Rattle.wasi_host.specs.laws.Reach.{found_still, input_apart, output_apart, puts_back}
+use Rattle.wasi_host.specs.laws.Reach.{found_still, input_apart, output_apart, tree_inputs, tree_outputs, left_trees, puts_back}
 use Rattle.wasi_host.specs.laws.TurnEnds.{free_end, end_end}
+use Rattle.wasi_host.specs.laws.Entries.{each_capacity}
+use Rattle.wasi_host.specs.laws.OnTrees.{OnTree, descriptor_on, pair_on}
+use Rattle.wasi_host.specs.laws.TreeTraps.{TreesLeft, entry_trees, by_trees, trees_stay}
+use Rattle.wasi_fs.specs.Trees.{TreeState}
+use Rattle.wasi_fs.specs.declared.descriptor.Descriptor.{Descriptor}
+use Rattle.wasi_fs_calls.specs.declared.call.PairCall.{PairCall}
 
 -- ---- what ends no guest
 never : {P : Type 0} (it : Told) → told_ends it ≡ false → told_ends it ≡ true → P
@@ -477,6 +483,15 @@ module _ (name : List ℕ) where
               ∙ both_gone (names_output settings.main) (list_any (λ (row : ℕ × Settings). names_output row.1) settings.named) (output_of streams);
         }
 
+    -- .. also where a tree was changed
+    tree_left : (settings : ByContext Settings) (tree : Option (List ℕ)) (it : TreeState) (streams : Streams) → AllLeft settings (leave_all gone settings (put_tree tree it streams)) streams
+    tree_left settings tree it streams =
+        let all = all_left settings (put_tree tree it streams) in
+        record {
+          input_is = all.input_is ∙ ap (λ inputs. option_map (in_gone gone (uses_input settings name)) (lookup (bytes_eq name) inputs)) (tree_inputs tree it streams);
+          output_is = all.output_is ∙ ap (λ outputs. option_map (out_gone gone (uses_output settings name)) (lookup (bytes_eq name) outputs)) (tree_outputs tree it streams);
+        }
+
     -- an entry's stream is one of its guest's
     input_among : (settings : ByContext Settings) (of : Option ℕ) → names_input (at_context of settings) ≡ true → uses_input settings name ≡ true
     input_among settings of is = asked_any names_input settings of is
@@ -500,6 +515,7 @@ module _ (name : List ℕ) where
     entry_left None settings streams = all_left settings streams
     entry_left (Some (entry.Shared e)) settings streams = all_left settings streams
     entry_left (Some (entry.Own e)) settings streams = all_left settings streams
+    entry_left (Some (entry.Descriptor of preopen e)) settings streams = all_left settings streams
     entry_left (Some (entry.Stream of standard.Input e)) settings streams =
         let from = (at_context of settings).input in
         let left = leave_input one_gone from streams in
@@ -548,6 +564,8 @@ act_keeps : (deed : Deed) (own : Own) → (act deed own).own.table.capacity ≡ 
 act_keeps (Tell it) own = refl
 act_keeps (Make it parent) own = cond_keeps own.table.capacity (may_make it parent own) (made it parent own) (trapped ResourceWrongType own)
     (cond_keeps own.table.capacity (nat_eq (live_count own.table) own.table.capacity) (trapped ResourceTableFull own) (record { reply = reply.Handle (next_number own.table); own = record { table = with_pushed own.table it parent } }) refl refl) refl
+act_keeps (MakeEach them) own = cond_keeps own.table.capacity (list_all (λ (it : Entry × List ℕ). stands_alone it.0) them) (each_made them own) (trapped ResourceWrongType own)
+    (cond_keeps own.table.capacity (nat_lt own.table.capacity (live_count own.table + length them)) (trapped ResourceTableFull own) (record { reply = reply.Directories (handles_made them own.table); own = record { table = with_each them own.table } }) refl (each_capacity them own.table)) refl
 act_keeps (Change n it answer) own = cond_keeps own.table.capacity (may_change (entry_at own n) it) (record { reply = reply.Told answer; own = with_kept own n it }) (trapped ResourceWrongType own) refl refl
 
 drop_keeps : (o : Option Entry) (n : ℕ) (own : Own) → (dropped_at o n own).own.table.capacity ≡ own.table.capacity
@@ -606,6 +624,17 @@ at_leaves clocks it g n (Some (entry.Stream of standard.Error on)) guest s strea
 at_leaves clocks it g n (Some (entry.Own on)) guest s streams held e =
     let deed = apart ((the_calls clocks).awaited it (record { guest = g; number = n }) on) in
     left_as g guest s streams (act deed guest.own) s streams e (act_keeps deed guest.own) refl refl
+at_leaves clocks it g n (Some (entry.Descriptor of preopen on)) guest s streams held e = left_as g guest s streams (trapped ResourceWrongType guest.own) s streams refl refl refl refl
+
+-- a call on descriptors
+on_leaves : (g : ℕ) (guest : Guest) (s : Shared) (streams : Streams) (done : Answered) → OnTree guest s streams done → ends done.reply ≡ true → Leaves g guest s streams done
+on_leaves g guest s streams done on =
+    subst (λ (done : Answered). ends done.reply ≡ true → Leaves g guest s streams done) on.is
+    (λ e. record {
+      shared_is = refl;
+      guest_is = ended_is guest (act (apart on.deed) guest.own) e (act_keeps (apart on.deed) guest.own);
+      left = λ name n. tree_left name g n guest.settings on.name on.left streams;
+    })
 
 drop_left : (g n : ℕ) (guest : Guest) (streams : Streams) (name : List ℕ) (m : ℕ) → AllLeft name g m guest.settings (leave_all (leaver.Guest g) guest.settings (leave_entry (leaver.Entry (record { guest = g; number = n })) (entry_at guest.own n) guest.settings streams)) streams
 drop_left g n guest streams name m = let left = entry_left name g n (entry_at guest.own n) guest.settings streams in record { input_is = left.input_is; output_is = left.output_is }
@@ -635,8 +664,10 @@ to_leaves clocks (call.Terminal it) g of guest s streams e =
     let deed = apart (opened_terminal it (at_context of guest.settings)) in
     left_as g guest s streams (act deed guest.own) s streams e (act_keeps deed guest.own) refl refl
 to_leaves clocks (call.Own it) g of guest s streams e =
-    let deed = apart ((the_calls clocks).owned it (at_context of guest.settings) guest.own) in
+    let deed = apart ((the_calls clocks).owned it of (at_context of guest.settings) guest.own) in
     left_as g guest s streams (act deed guest.own) s streams e (act_keeps deed guest.own) refl refl
+to_leaves clocks (call.Descriptor n it) g of guest s streams e = on_leaves g guest s streams _ (descriptor_on (the_calls clocks) it (at_context of guest.settings).blocking (entry_at guest.own n) guest s streams) e
+to_leaves clocks (call.Pair n to it) g of guest s streams e = on_leaves g guest s streams _ (pair_on (the_calls clocks) it (entry_at guest.own n) (entry_at guest.own to) guest s streams) e
 to_leaves clocks (call.Random it) g of guest s streams e =
     let settings = at_context of guest.settings in
     let sources = at_context of guest.sources in
@@ -690,8 +721,17 @@ on_guest : (P : Guest → Type 0) (o : Option Guest) → ((guest : Guest) → o 
 on_guest P None holds = tt
 on_guest P (Some guest) holds = holds guest refl
 
-pub traps_stay : (step : Line) (host : Host) (given : Given) → ends (reply_to step host given) ≡ true → StaysWithCaller step host (host_after step host given)
-traps_stay (line.Call caller c) host given e = on_guest (λ guest. StaysWithGuest caller.guest guest host (host_after (line.Call caller c) host given)) (guest_of host caller.guest) (λ guest there. call_stays c caller host guest given there e)
+call_trees : (c : Call) (caller : Context) (host : Host) (guest : Guest) (given : Given) → guest_of host caller.guest ≡ Some guest → ends (reply_to (line.Call caller c) host given) ≡ true → TreesStay c host (host_after (line.Call caller c) host given) (reply_to (line.Call caller c) host given)
+call_trees c caller host guest given there e =
+    let done : Option Guest → Answered = λ o. answer_in (the_calls host.clocks) c caller o host.shared host.streams in
+    trees_stay c host (host_after (line.Call caller c) host given) (reply_to (line.Call caller c) host given)
+    (subst (λ o. ends (done o).reply ≡ true → TreesLeft c host.streams (done o)) (sym there) (by_trees host.clocks guest.ended c caller.guest caller.named guest host.shared host.streams) e)
+
+pub traps_stay : (step : Line) (host : Host) (given : Given) → ends (reply_to step host given) ≡ true → StaysWithCaller step host (host_after step host given) (reply_to step host given)
+traps_stay (line.Call caller c) host given e =
+    let after = host_after (line.Call caller c) host given in
+    let answer = reply_to (line.Call caller c) host given in
+    on_guest (λ guest. StaysWithGuest caller.guest guest host after × TreesStay c host after answer) (guest_of host caller.guest) (λ guest there. (call_stays c caller host guest given there e, call_trees c caller host guest given there e))
 traps_stay other host given e = absurd (true≢false (sym e))
 
 -- ---- a number that is not live
@@ -713,15 +753,54 @@ dead_reply clocks (call.Open it how) g number of guest s streams is dead = absur
 dead_reply clocks (call.Terminal it) g number of guest s streams is dead = absurd (true≢false (sym (ap is_some is)))
 dead_reply clocks (call.Own it) g number of guest s streams is dead = absurd (true≢false (sym (ap is_some is)))
 dead_reply clocks (call.Random it) g number of guest s streams is dead = absurd (true≢false (sym (ap is_some is)))
+dead_reply clocks (call.Descriptor n it) g number of guest s streams is dead =
+    ap (λ o. (descriptor_at (the_calls clocks) it (at_context of guest.settings).blocking o guest s streams).reply) (ap (entry_at guest.own) (same_number n number is) ∙ dead)
+dead_reply clocks (call.Pair n to it) g number of guest s streams is dead =
+    ap (λ o. (pair_at (the_calls clocks) it o (entry_at guest.own to) guest s streams).reply) (ap (entry_at guest.own) (same_number n number is) ∙ dead)
 
-pub dead_refused : (caller : Context) (number : ℕ) (c : Call) (guest : Guest) (host : Host) (given : Given) → guest_of host caller.guest ≡ Some guest → guest.ended ≡ false → number_in c ≡ Some number → is_live guest.own.table number ≡ false → IsRefused caller c guest host given
-dead_refused caller number c guest host given there goes_on is dead =
+dead_trees : (clocks : Clocks) (c : Call) (g number : ℕ) (of : Option ℕ) (guest : Guest) (s : Shared) (streams : Streams) → number_in c ≡ Some number → entry_at guest.own number ≡ None → (answer_to (the_calls clocks) c g of guest s streams).streams.trees ≡ streams.trees
+dead_trees clocks (call.On n it) g number of guest s streams is dead =
+    ap (λ o. (answer_at (the_calls clocks) it (record { guest = g; number = n }) o guest s streams).streams.trees) (ap (entry_at guest.own) (same_number n number is) ∙ dead)
+dead_trees clocks (call.Descriptor n it) g number of guest s streams is dead =
+    ap (λ o. (descriptor_at (the_calls clocks) it (at_context of guest.settings).blocking o guest s streams).streams.trees) (ap (entry_at guest.own) (same_number n number is) ∙ dead)
+dead_trees clocks (call.Pair n to it) g number of guest s streams is dead =
+    ap (λ o. (pair_at (the_calls clocks) it o (entry_at guest.own to) guest s streams).streams.trees) (ap (entry_at guest.own) (same_number n number is) ∙ dead)
+dead_trees clocks (call.Drop n) g number of guest s streams is dead = entry_trees (leaver.Entry (record { guest = g; number = n })) (entry_at guest.own n) guest.settings streams
+dead_trees clocks (call.Open it how) g number of guest s streams is dead = refl
+dead_trees clocks (call.Terminal it) g number of guest s streams is dead = refl
+dead_trees clocks (call.Own it) g number of guest s streams is dead = refl
+dead_trees clocks (call.Random it) g number of guest s streams is dead = refl
+
+-- a call that is refused so, where its guest goes on
+refused_so : (caller : Context) (c : Call) (guest : Guest) (host : Host) (given : Given) → guest_of host caller.guest ≡ Some guest → guest.ended ≡ false → let done = answer_to (the_calls host.clocks) c caller.guest caller.named guest host.shared host.streams in done.reply ≡ refusal → done.streams.trees ≡ host.streams.trees → IsRefused caller c guest host given
+refused_so caller c guest host given there goes_on reply_is trees_are =
     let rules = the_calls host.clocks in
+    let done = answer_to rules c caller.guest caller.named guest host.shared host.streams in
     let refused : reply_to (line.Call caller c) host given ≡ refusal =
     ap (λ o. (answer_in rules c caller o host.shared host.streams).reply) there
     ∙ ap (λ b. (answer_by b rules c caller.guest caller.named guest host.shared host.streams).reply) goes_on
-    ∙ dead_reply host.clocks c caller.guest number caller.named guest host.shared host.streams is (none_there (held_at guest.own.table number) dead) in
+    ∙ reply_is in
     record {
       reply_is = refused;
       stays = call_stays c caller host guest given there (ap ends refused);
+      trees = ap (λ o. (answer_in rules c caller o host.shared host.streams).streams.trees) there
+          ∙ ap (λ b. (answer_by b rules c caller.guest caller.named guest host.shared host.streams).streams.trees) goes_on
+          ∙ left_trees (ends done.reply) (leaver.Guest caller.guest) guest.settings done.streams
+          ∙ trees_are;
     }
+
+-- the second number of a call on two
+pub second_refused : (caller : Context) (number to : ℕ) (it : PairCall) (of : Option ℕ) (preopen : ℕ) (at : Descriptor) (guest : Guest) (host : Host) (given : Given) → guest_of host caller.guest ≡ Some guest → guest.ended ≡ false → entry_at guest.own number ≡ Some (entry.Descriptor of preopen at) → is_live guest.own.table to ≡ false → IsRefused caller (call.Pair number to it) guest host given
+second_refused caller number to it of preopen at guest host given there goes_on held dead =
+    let rules = the_calls host.clocks in
+    let none = none_there (held_at guest.own.table to) dead in
+    refused_so caller (call.Pair number to it) guest host given there goes_on
+    (ap (λ o. (pair_at rules it o (entry_at guest.own to) guest host.shared host.streams).reply) held ∙ ap (λ o. (second_at rules it of preopen at o guest host.shared host.streams).reply) none)
+    (ap (λ o. (pair_at rules it o (entry_at guest.own to) guest host.shared host.streams).streams.trees) held ∙ ap (λ o. (second_at rules it of preopen at o guest host.shared host.streams).streams.trees) none)
+
+pub dead_refused : (caller : Context) (number : ℕ) (c : Call) (guest : Guest) (host : Host) (given : Given) → guest_of host caller.guest ≡ Some guest → guest.ended ≡ false → number_in c ≡ Some number → is_live guest.own.table number ≡ false → IsRefused caller c guest host given
+dead_refused caller number c guest host given there goes_on is dead =
+    let none = none_there (held_at guest.own.table number) dead in
+    refused_so caller c guest host given there goes_on
+    (dead_reply host.clocks c caller.guest number caller.named guest host.shared host.streams is none)
+    (dead_trees host.clocks c caller.guest number caller.named guest host.shared host.streams is none)

@@ -38,10 +38,11 @@ use Rattle.wasi_host.specs.Deeds.{Own, entry_at, act, apart, dropped}
 use Rattle.wasi_host.specs.Tasks.{output_turned}
 use Rattle.wasi_host.specs.Clocks.{Clocks}
 use Rattle.wasi_host.specs.Calls.{Owner, Settings, sent, called}
-use Rattle.wasi_host.specs.Host.{Named, the_calls, Guest, Streams, Host, new_output, taken_out, put_back, output_at, put_output, input_at, leave_input, leave_output, leave_entry, leave_context, leave_each, leave_all, answer_at, answer_to, answer_by, answer_in, guest_of, reply_to, host_after}
+use Rattle.wasi_host.specs.Host.{Named, the_calls, Guest, Streams, Host, new_output, taken_out, put_back, output_at, put_output, input_at, leave_input, leave_output, leave_entry, leave_context, leave_each, leave_all, answer_at, answer_to, answer_by, answer_in, guest_of, reply_to, host_after, Answered}
 use Rattle.wasi_host.specs.View.{output_names}
 use Rattle.wasi_host.specs.Promises.{entry_call_on, guest_call_on, step_call_on}
-use Rattle.wasi_host.specs.laws.Reach.{found_still, input_apart}
+use Rattle.wasi_host.specs.laws.Reach.{found_still, input_apart, tree_outputs}
+use Rattle.wasi_host.specs.laws.OnTrees.{OnTree, descriptor_on, pair_on}
 
 -- ---- what is written under a name
 set_found : (test : List ℕ → Bool) (outputs : Named OutStream) (it : OutStream) → lookup test (set_value test outputs it) ≡ option_map (λ old. it) (lookup test outputs)
@@ -142,6 +143,7 @@ module _ (R : Change) (holds : HoldsOfEach R) (name : List ℕ) where
     leaves_entry None settings streams h = h
     leaves_entry (Some (entry.Shared e)) settings streams h = h
     leaves_entry (Some (entry.Own e)) settings streams h = h
+    leaves_entry (Some (entry.Descriptor of preopen e)) settings streams h = h
     leaves_entry (Some (entry.Stream of standard.Input e)) settings streams h = leaves_input (at_context of settings).input streams h
     leaves_entry (Some (entry.Stream of standard.Output e)) settings streams h = leaves_output (at_context of settings).stdout streams h
     leaves_entry (Some (entry.Stream of standard.Error e)) settings streams h = leaves_output (at_context of settings).stderr streams h
@@ -178,6 +180,13 @@ module _ (R : Change) (holds : HoldsOfEach R) (name : List ℕ) where
   at_call clocks it at (Some (entry.Stream of standard.Output e)) guest s streams held = to_sends it of standard.Output at e guest.own held (at_context of guest.settings).stdout streams
   at_call clocks it at (Some (entry.Stream of standard.Error e)) guest s streams held = to_sends it of standard.Error at e guest.own held (at_context of guest.settings).stderr streams
   at_call clocks it at (Some (entry.Own e)) guest s streams held = kept _ streams.outputs
+  at_call clocks it at (Some (entry.Descriptor of preopen e)) guest s streams held = kept _ streams.outputs
+
+  -- a call on descriptors leaves all outputs
+  tree_call : (guest : Guest) (s : Shared) (streams : Streams) (done : Answered) → OnTree guest s streams done → Holds None done.reply streams.outputs done.streams.outputs
+  tree_call guest s streams done on =
+      subst (λ (done : Answered). Holds None done.reply streams.outputs done.streams.outputs) on.is
+      (let answer = (act (apart on.deed) guest.own).reply in subst (λ outputs. Holds None answer streams.outputs outputs) (sym (tree_outputs on.name on.left streams)) (kept answer streams.outputs))
 
   to_call : (clocks : Clocks) (c : Call) (g : ℕ) (of : Option ℕ) (guest : Guest) (s : Shared) (streams : Streams) → guest.ended ≡ false → let done = answer_to (the_calls clocks) c g of guest s streams in Holds (guest_call_on name c guest) done.reply streams.outputs done.streams.outputs
   to_call clocks (call.On n it) g of guest s streams goes_on =
@@ -188,6 +197,8 @@ module _ (R : Change) (holds : HoldsOfEach R) (name : List ℕ) where
   to_call clocks (call.Terminal it) g of guest s streams goes_on = kept _ streams.outputs
   to_call clocks (call.Own it) g of guest s streams goes_on = kept _ streams.outputs
   to_call clocks (call.Random it) g of guest s streams goes_on = kept _ streams.outputs
+  to_call clocks (call.Descriptor n it) g of guest s streams goes_on = tree_call guest s streams _ (descriptor_on (the_calls clocks) it (at_context of guest.settings).blocking (entry_at guest.own n) guest s streams)
+  to_call clocks (call.Pair n to it) g of guest s streams goes_on = tree_call guest s streams _ (pair_on (the_calls clocks) it (entry_at guest.own n) (entry_at guest.own to) guest s streams)
 
   ended_call : (c : Call) (guest : Guest) → guest.ended ≡ true → guest_call_on name c guest ≡ None
   ended_call (call.On n it) guest e = ap (λ b. cond b None (entry_call_on name it (entry_at guest.own n) guest.settings)) e
@@ -196,6 +207,8 @@ module _ (R : Change) (holds : HoldsOfEach R) (name : List ℕ) where
   ended_call (call.Terminal it) guest e = refl
   ended_call (call.Own it) guest e = refl
   ended_call (call.Random it) guest e = refl
+  ended_call (call.Descriptor n it) guest e = refl
+  ended_call (call.Pair n to it) guest e = refl
 
   by_call : (clocks : Clocks) (b : Bool) (c : Call) (g : ℕ) (of : Option ℕ) (guest : Guest) (s : Shared) (streams : Streams) → guest.ended ≡ b → let done = answer_by b (the_calls clocks) c g of guest s streams in Holds (guest_call_on name c guest) done.reply streams.outputs done.streams.outputs
   by_call clocks true c g of guest s streams e = subst (λ on. Holds on reply.Ended streams.outputs streams.outputs) (sym (ended_call c guest e)) (kept reply.Ended streams.outputs)
@@ -214,6 +227,9 @@ module _ (R : Change) (holds : HoldsOfEach R) (name : List ℕ) where
   step_holds (line.Output n it) host given = declared host.streams.outputs n it (reply_to (line.Output n it) host given)
   step_holds (line.Call caller c) host given = in_call host.clocks c caller (guest_of host caller.guest) host.shared host.streams
   step_holds (line.Input n it) host given = kept _ host.streams.outputs
+  step_holds (line.Tree name) host given = kept _ host.streams.outputs
+  step_holds (line.Node tree path it) host given = kept _ host.streams.outputs
+  step_holds (line.TreeFault tree kind) host given = kept _ host.streams.outputs
   step_holds (line.Guest g it) host given = kept _ host.streams.outputs
   step_holds (line.Context g id it) host given = kept _ host.streams.outputs
   step_holds (line.Capacity g capacity) host given = kept _ host.streams.outputs
