@@ -10,7 +10,7 @@ use Rattle.wasi_script.specs.declared.lines.Call.{Call}
 use Rattle.wasi_script.specs.declared.lines.Context.{Context}
 use Rattle.wasi_script.specs.declared.lines.Line.{Line}
 use Rattle.wasi_script.specs.declared.lines.Line.TheVariants as line
-use Rattle.wasi_script.specs.Grammar.{may_declare}
+use Rattle.wasi_script.specs.Grammar.{may_declare, may_declare_tree}
 use Rattle.wasi_script.specs.laws.Distinct.{is_new}
 use Rattle.wasi_script.specs.laws.Rows.{absent_is}
 use Rattle.wasi_reply.specs.declared.reply.Reply.{Reply}
@@ -43,10 +43,13 @@ changed_now change host n guest left it within is some left_is = rw (there host.
 pub guest_there : (host : Host) (n : ℕ) (guest : Guest) (it : Option Guest) → n < length host.guests → it ≡ get_or host.guests n it → it ≡ Some guest → guest_of host n ≡ Some guest
 guest_there host n guest it within is some = there host.guests n it within is ∙ some
 
--- a name that may be declared names no stream yet
+-- a name that may be declared names no stream and no tree yet
 module _ (host : Host) (name : List ℕ) (may : may_declare (names_of host) name ≡ true) where
   pub no_input : lookup (bytes_eq name) host.streams.inputs ≡ None
-  no_input = absent_is name host.streams.inputs (is_new _ _ _ may).0
+  no_input = absent_is name host.streams.inputs (is_new _ _ _ _ may).0
 
   pub no_output : lookup (bytes_eq name) host.streams.outputs ≡ None
-  no_output = absent_is name host.streams.outputs (is_new _ _ _ may).1
+  no_output = absent_is name host.streams.outputs (is_new _ _ _ _ may).1
+
+pub no_tree_yet : (host : Host) (name : List ℕ) → may_declare_tree (names_of host) name ≡ true → lookup (bytes_eq name) host.streams.trees ≡ None
+no_tree_yet host name may = absent_is name host.streams.trees (is_new _ _ _ _ may).2

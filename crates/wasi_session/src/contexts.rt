@@ -9,9 +9,9 @@ use crate::streams::Streams;
 use indexmap::IndexMap;
 use std::alloc::Global;
 use std::marker::Model;
-use wasi_base::OutOfMemory;
+use wasi_base::{OutOfMemory, Text};
 use wasi_cli::{ArgList, CwdText, EnvList};
-use wasi_host::{Leaver, Settings, Sources};
+use wasi_host::{Leaver, Preopen, Preopens, Settings, Sources};
 use wasi_random::DEFAULT_MAX_SIZE;
 use wasi_reply::Told;
 use wasi_script::{Input, Output, RandomCall, Setting};
@@ -37,6 +37,8 @@ impl GuestContext {
                 initial_cwd: None,
                 insecure_seed: 0,
                 most_random: DEFAULT_MAX_SIZE,
+                preopens: Preopens::none(alloc),
+                blocking: false,
             },
             sources: Sources::new(),
         }
@@ -68,6 +70,13 @@ impl GuestContext {
                 let cwd = CwdText::from_str(alloc, text.as_str())?;
                 self.settings.initial_cwd = Some(cwd);
             }
+            Setting::Preopen { tree, path, perms } => {
+                let tree = tree.copy(alloc)?;
+                let path = Text::from_str(alloc, path.as_str())?;
+                let perms = *perms;
+                self.settings.preopens.push(Preopen { tree, path, perms })?;
+            }
+            Setting::Blocking(it) => self.settings.blocking = *it,
         }
         Ok(())
     }

@@ -2,15 +2,16 @@ ghost use Rattle.std.specs.Prelude.{◌≡◌, ◌≤◌, Some, IfOk, OnOk, OnEr
 ghost use Rattle.wasi_reply.specs.Reply.{ends};
 ghost use Rattle.wasi_host.specs.Calls.{opened, stream_entry, owned, exit_status};
 ghost use Rattle.wasi_host.specs.Deeds.{entry_at};
-ghost use Rattle.wasi_host.specs.Contexts.{is_named, at_context};
+ghost use Rattle.wasi_host.specs.Contexts.{is_named, at_context, has_context};
 ghost use Rattle.wasi_session.specs.Makes.{IsMake};
 ghost use Rattle.wasi_session.specs.Fitting.{SettingFits};
 ghost use Rattle.wasi_session.specs.StreamCalls.{stream_doing};
 ghost use Rattle.wasi_host.specs.declared.leaver.Leaver.TheVariants as leaver;
-ghost use Rattle.wasi_host.specs.Host.{leave_entry, the_calls, new_guest, with_context, with_capacity, configured, left_guest, settled, answer_at, answer_to, answer_by};
+ghost use Rattle.wasi_host.specs.Host.{leave_entry, has_preopen_in, the_calls, new_guest, with_context, with_capacity, configured, left_guest, settled, answer_at, answer_to, answer_by};
 
 use crate::clocks::{awaited, clocked};
 use crate::contexts::Contexts;
+use crate::descriptors::directories;
 use crate::environment::{arguments_told, cwd_told, environment_told, opened_terminal};
 use crate::own::Own;
 use crate::shared;
@@ -32,8 +33,8 @@ const CAPACITY: u32 = 1024;
 /// A guest: its contexts, what it owns, and whether it was called and whether it ended.
 #[derive(Drop)]
 pub struct Guest {
-    contexts: Contexts,
-    own: Own,
+    pub(crate) contexts: Contexts,
+    pub(crate) own: Own,
     was_called: bool,
     ended: bool,
 }
@@ -77,6 +78,22 @@ impl Guest {
         ensures { result ≡ is_named id self.now.settings }
     {
         self.contexts.has(id)
+    }
+
+    /// Whether lines gave one of its contexts a directory.
+    pub fn was_given(&self, context: Option<u32>) -> bool
+        ensures { result ≡ has_preopen_in context (Some self.now) }
+    {
+        self.has_context_of(context) && !self.contexts.settings(context).preopens.as_slice().is_empty()
+    }
+
+    fn has_context_of(&self, context: Option<u32>) -> bool
+        ensures { result ≡ has_context context self.now.settings }
+    {
+        match context {
+            None => true,
+            Some(id) => self.has_context(id),
+        }
     }
 
     /// A named context of a new number.
@@ -170,7 +187,7 @@ impl Guest {
                     Standard::Error => streams.leave_output(&settings.stderr, who),
                 }
             }
-            Some(Entry::Shared(_) | Entry::Own(_)) | None => {}
+            Some(Entry::Shared(_) | Entry::Own(_) | Entry::Descriptor { .. }) | None => {}
         }
     }
 
@@ -192,14 +209,15 @@ impl Guest {
             Call::Open { stream, access } => {
                 let settings = self.contexts.settings(caller.named);
                 let entry = opened(&settings.input, caller.named, *stream, *access);
-                self.own.act(Deed::Make {
+                let deed = Deed::Make {
                     entry,
                     parent: None,
-                })
+                };
+                self.own.act(alloc, deed)
             }
             Call::Terminal { stream } => {
                 let deed = opened_terminal(self.contexts.settings(caller.named), *stream);
-                self.own.act_apart(deed)
+                self.own.act_apart(alloc, deed)
             }
             Call::On { number, call } => {
                 self.answer_at(alloc, call, caller.guest, *number, clocks, core, streams)
@@ -210,8 +228,13 @@ impl Guest {
             }
             Call::Own(call) => {
                 let deed = self.owned(alloc, call, caller.named, clocks)?;
-                self.own.act_apart(deed)
+                self.own.act_apart(alloc, deed)
             }
+            Call::Descriptor { number, call } => {
+                let blocking = self.contexts.settings(caller.named).blocking;
+                self.call_descriptor(alloc, call, *number, blocking, clocks, streams)
+            }
+            Call::Pair { number, to, call } => self.call_pair(alloc, call, *number, *to, streams),
             Call::Random(call) => match self.contexts.draw(alloc, caller.named, *call) {
                 Ok(told) => Ok(Reply::Told(told)),
                 Err(error) => Err(error),
@@ -243,7 +266,7 @@ impl Guest {
             Some(Entry::Shared(entry)) => {
                 let entry = *entry;
                 let deed = shared::asked(alloc, core, call, at, entry)?;
-                self.own.act(deed)
+                self.own.act(alloc, deed)
             }
             Some(
                 Entry::Stream {
@@ -254,11 +277,14 @@ impl Guest {
             ) => {
                 let (context, stream, entry) = (*context, *stream, *entry);
                 let deed = self.on_stream(alloc, call, at, context, stream, entry, streams)?;
-                self.own.act_apart(deed)
+                self.own.act_apart(alloc, deed)
+            }
+            Some(Entry::Descriptor { .. }) => {
+                Ok(Reply::Told(Told::Trap(TrapText::ResourceWrongType)))
             }
             Some(Entry::Own(entry)) => {
                 let deed = awaited(clocks, call, at, *entry);
-                self.own.act_apart(deed)
+                self.own.act_apart(alloc, deed)
             }
         }
     }
@@ -309,6 +335,7 @@ impl Guest {
             OwnCall::Environment => Ok(Deed::Tell(environment_told(alloc, settings)?)),
             OwnCall::Arguments => Ok(Deed::Tell(arguments_told(alloc, settings)?)),
             OwnCall::InitialCwd => Ok(Deed::Tell(cwd_told(alloc, settings)?)),
+            OwnCall::Directories => directories(alloc, context, settings),
         }
     }
 }

@@ -6,6 +6,7 @@ mod environment;
 mod generated;
 mod random;
 mod tasks;
+mod trees;
 
 use crate::{SessionError, run_program, run_session};
 use std::alloc::Global;
