@@ -12,9 +12,13 @@ use Rattle.wasi_clocks.specs.declared.wall_times.WallTime.{WallTime}
 use Rattle.wasi_script.specs.Times.{time_of}
 use Rattle.wasi_script.specs.Trees.{Growing, with_tree, has_room, with_node}
 use Rattle.wasi_script.specs.Bytes.{byte_string_of, declared_bytes_of, text_of}
+use Rattle.wasi_script.specs.Descriptors.{descriptor_calls, path_calls, pair_calls}
 use Rattle.wasi_script.specs.Plans.{read_plan_of, write_plan_of}
 use Rattle.wasi_base.specs.declared.source.Plan.{Plan}
 use Rattle.wasi_base.specs.declared.sink.SinkPlan.{SinkPlan}
+use Rattle.wasi_base.specs.IoKind.{kind_named}
+use Rattle.wasi_fs_types.specs.declared.descriptor.FsPerms.{FsPerms}
+use Rattle.wasi_fs_types.specs.declared.descriptor.FsPerms.TheVariants as perms
 use Rattle.wasi_script.specs.declared.lines.Context.{Context}
 use Rattle.wasi_script.specs.declared.lines.Line.{Line}
 use Rattle.wasi_script.specs.declared.lines.Line.TheVariants as line
@@ -25,6 +29,7 @@ use Rattle.wasi_script.specs.declared.lines.OutputDeclaration.TheVariants as out
 use Rattle.wasi_script.specs.declared.lines.Setting.{Setting}
 use Rattle.wasi_script.specs.declared.lines.Setting.TheVariants as setting
 use Rattle.wasi_script.specs.declared.lines.NewNode.{NewNode}
+use Rattle.wasi_script.specs.declared.lines.NewNode.TheVariants as new
 use Rattle.wasi_script.specs.declared.lines.RandomSource.{RandomSource}
 use Rattle.wasi_script.specs.declared.lines.RandomSource.TheVariants as source
 use Rattle.wasi_script.specs.declared.lines.WorkerTurn.TheVariants as turn
@@ -81,8 +86,8 @@ output_of word =
 abbrev pub exit_of : List ℕ → Option ExitStatus
 exit_of word = cond (bytes_eq word (codes "ok")) (Some exit.Ok) (cond (bytes_eq word (codes "err")) (Some exit.Err) None)
 
--- the calls that open a standard stream, those on an entry, those on the clocks, on the random sources and on terminals,
--- and the others
+-- the calls that open a standard stream, those on an entry, on the clocks, on the random sources, on terminals and on
+-- descriptors, and the others
 abbrev pub open_calls : List (Form Call)
 open_calls =
     (codes "get-stdin", without_fields (call.Open standard.Input access.Plain))
@@ -130,6 +135,7 @@ other_calls =
     ∷ (codes "get-environment", without_fields (call.Own own.Environment))
     ∷ (codes "get-arguments", without_fields (call.Own own.Arguments))
     ∷ (codes "initial-cwd", without_fields (call.Own own.InitialCwd))
+    ∷ (codes "get-directories", without_fields (call.Own own.Directories))
     ∷ []
 
 -- a call on the clocks, without fields and with a number
@@ -172,7 +178,7 @@ random_calls =
     ∷ []
 
 abbrev pub call_of : List (List ℕ) → Option Call
-call_of = meaning_by (open_calls ++ (entry_calls ++ (other_calls ++ (clock_calls ++ (random_calls ++ terminal_calls)))))
+call_of = meaning_by (open_calls ++ (entry_calls ++ (descriptor_calls ++ (path_calls ++ (pair_calls ++ (other_calls ++ (clock_calls ++ (random_calls ++ terminal_calls))))))))
 
 -- the steps' fields
 abbrev pub pipe_of : List (List ℕ) → Option Line
@@ -222,6 +228,29 @@ source_of_word word = cond (bytes_eq word (codes "secure")) (Some source.Secure)
 abbrev pub source_set : {A : Type 0} → (List ℕ → Option A) → (RandomSource → A → Setting) → List (List ℕ) → Option Line
 source_set field it = with_first context_of (λ context. with_first source_of_word (λ from. with_last field (λ value. line.Configure context (it from value))))
 
+-- a directory that a context is given: a tree, its path, and what may be done there
+abbrev pub perms_of : List ℕ → Option FsPerms
+perms_of word = cond (bytes_eq word (codes "ro")) (Some perms.ReadOnly) (cond (bytes_eq word (codes "rw")) (Some perms.ReadWrite) None)
+
+abbrev pub preopen_of : List (List ℕ) → Option Line
+preopen_of = with_first context_of (λ context. with_first name_of (λ tree. with_first text_of (λ path. with_last perms_of (λ may. line.Configure context (setting.Preopen tree path may)))))
+
+abbrev pub yes_or_no : List ℕ → Option Bool
+yes_or_no word = cond (bytes_eq word (codes "yes")) (Some true) (cond (bytes_eq word (codes "no")) (Some false) None)
+
+-- a tree, and the path of a node in it
+abbrev pub tree_dir_of : List (List ℕ) → Option Line
+tree_dir_of = with_first name_of (λ tree. with_last text_of (λ path. line.Node tree path new.Directory))
+
+abbrev pub tree_file_of : List (List ℕ) → Option Line
+tree_file_of = with_first name_of (λ tree. with_first text_of (λ path. with_last byte_string_of (λ bytes. line.Node tree path (new.File bytes))))
+
+abbrev pub tree_link_of : List (List ℕ) → Option Line
+tree_link_of = with_first name_of (λ tree. with_first text_of (λ path. with_last text_of (λ text. line.Node tree path (new.Link text))))
+
+abbrev pub tree_fault_of : List (List ℕ) → Option Line
+tree_fault_of = with_first name_of (λ tree. with_last kind_named (line.TreeFault tree))
+
 abbrev pub call_line_of : List (List ℕ) → Option Line
 call_line_of = with_first context_of (λ context fields. option_map (line.Call context) (call_of fields))
 
@@ -247,7 +276,7 @@ clock_settings =
 abbrev pub clock_of : List (List ℕ) → Option Line
 clock_of fields = option_map line.Clock (meaning_by clock_settings fields)
 
--- the steps that declare streams, those that say more of a context, and the others
+-- the steps that declare streams, those that say more of a context, those on trees, and the others
 abbrev pub stream_lines : List (Form Line)
 stream_lines =
     (codes "pipe", pipe_of)
@@ -281,10 +310,21 @@ setting_lines =
     ∷ (codes "seeded", source_set number_of setting.Seeded)
     ∷ (codes "seed", setting_of u128_of setting.InsecureSeed)
     ∷ (codes "maxrandom", setting_of number_of setting.MaxRandom)
+    ∷ (codes "preopen", preopen_of)
+    ∷ (codes "blocking", setting_of yes_or_no setting.Blocking)
+    ∷ []
+
+abbrev pub tree_lines : List (Form Line)
+tree_lines =
+    (codes "tree", with_last name_of line.Tree)
+    ∷ (codes "treedir", tree_dir_of)
+    ∷ (codes "treefile", tree_file_of)
+    ∷ (codes "treelink", tree_link_of)
+    ∷ (codes "treefail", tree_fault_of)
     ∷ []
 
 abbrev pub line_of : List (List ℕ) → Option Line
-line_of = meaning_by ((codes "call", call_line_of) ∷ stream_lines ++ (other_lines ++ setting_lines))
+line_of = meaning_by ((codes "call", call_line_of) ∷ stream_lines ++ (other_lines ++ (setting_lines ++ tree_lines)))
 
 abbrev pub step_or_invalid : Option Line → Reading
 step_or_invalid None = Invalid

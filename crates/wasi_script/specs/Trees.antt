@@ -45,3 +45,20 @@ has_room name path it now trees = unwrap_or (option_map (λ nodes. is_added (nod
 
 abbrev pub with_node : List ℕ → List ℕ → NewNode → WallTime → Growing → Growing
 with_node name path it now trees = set_value (bytes_eq name) trees (nodes_after (nodes_at name trees) path it now)
+
+-- The trees that lines declared: the names of all, and their nodes while lines may add to them.
+pub record DeclaredTrees : Type 0 where
+  pub names : List (List ℕ)
+  pub growing : Option Growing
+
+abbrev pub no_trees : DeclaredTrees
+no_trees = record { names = []; growing = Some [] }
+
+abbrev pub tree_declared : List ℕ → WallTime → DeclaredTrees → DeclaredTrees
+tree_declared name now trees = record { names = trees.names ++ name ∷ []; growing = option_map (with_tree name now) trees.growing }
+
+abbrev pub node_declared : List ℕ → List ℕ → NewNode → WallTime → DeclaredTrees → DeclaredTrees
+node_declared name path it now trees = record { names = trees.names; growing = option_map (with_node name path it now) trees.growing }
+
+abbrev pub trees_closed : DeclaredTrees → DeclaredTrees
+trees_closed trees = record { names = trees.names; growing = None }

@@ -1,18 +1,26 @@
-ghost use Rattle.std.specs.Prelude.{◌≡◌, ◌+◌, ◌<◌, length, slice_index_or, true, false, OnOk, OnErr};
-ghost use Rattle.wasi_script.specs.Grammar.{Names, may_stand, may_declare, budget_stands, may_set_up, context_stands, input_stands, output_stands, setting_stands, turn_stands, names_after, no_names, is_among};
-ghost use Rattle.wasi_script.specs.Declarations.{input_flags, output_flags, context_at};
+ghost use Rattle.std.specs.Prelude.{◌≡◌, ◌+◌, ◌<◌, length, slice_index_or, option_map, option_copied, option_and_then, true, false, OnOk, OnErr};
+ghost use Rattle.std.specs.Map.{lookup};
+ghost use Rattle.std.specs.Str.{bytes_eq};
+ghost use Rattle.wasi_script.specs.Grammar.{Names, may_stand, is_new, may_declare, may_declare_tree, node_stands, budget_stands, may_set_up, context_stands, input_stands, output_stands, setting_stands, turn_stands, names_after, no_names, is_among};
+ghost use Rattle.wasi_script.specs.Declarations.{input_flags, output_flags, context_at, given_at};
+ghost use Rattle.wasi_script.specs.Trees.{is_added, node_added};
 ghost use Rattle.wasi_script.specs.declared.lines.Line.TheVariants as line;
+ghost use Rattle.wasi_clocks.specs.declared.wall_times.WallTime.{WallTime};
 
 use crate::lines::{
-    Context, Input, InputDeclaration, Line, Output, OutputDeclaration, Setting, StreamTask,
+    ClockSetting, Context, Input, InputDeclaration, Line, NewNode, Output, OutputDeclaration,
+    Setting, StreamTask,
 };
 use crate::name::Name;
 use crate::name_set::{NameSet, StreamFlags};
+use crate::trees::Trees;
 use std::alloc::Global;
-use wasi_base::OutOfMemory;
+use wasi_base::{OutOfMemory, Text};
+use wasi_clocks::WallTime;
+use wasi_fs::Tree;
 
-/// Something that knows which guests, inputs and outputs there are, and which guests have called:
-/// what a parser took down of the lines so far, or a session that did them.
+/// Something that knows which guests, inputs, outputs and trees there are, and which guests have
+/// called: what a parser took down of the lines so far, or a session that did them.
 pub trait Declared {
     /// The names of what was declared.
     ghost names: { Self → Names };
@@ -53,6 +61,23 @@ pub trait Declared {
     fn has_stdio(&self, name: &[u8]) -> bool
         ensures { result ≡ (names self.now).has_stdio name.now };
 
+    /// Whether a context was given a directory.
+    fn was_given(&self, context: &Context) -> bool
+        ensures { result ≡ (names self.now).has_preopen context.now.guest context.now.named };
+
+    /// How many trees there are.
+    fn tree_count(&self) -> usize
+        ensures { result ≡ length (names self.now).trees };
+
+    /// Whether there is a tree of this name.
+    fn has_tree(&self, name: &[u8]) -> bool
+        ensures { result ≡ is_among name.now (names self.now).trees };
+
+    /// The tree of this name as lines made it, while lines may add to trees: before any guest's first
+    /// call.
+    fn growing(&self, name: &[u8]) -> Option<&Tree>
+        ensures { option_map (λ tree. tree.nodes) (option_copied result) ≡ option_and_then (lookup (bytes_eq name.now)) (names self.now).growing };
+
     /// Whether a line may stand after what was declared.
     final fn allow(&self, line: &Line) -> bool
         ensures { result ≡ may_stand (names self.now) line.now }
@@ -60,6 +85,9 @@ pub trait Declared {
         match line {
             Line::Input { name, input: _ } => self.allow_name(name),
             Line::Output { name, output } => self.allow_name(name) && has_budget(output),
+            Line::Tree { name } => self.allow_tree(name),
+            Line::Node { tree, path, node } => self.allow_node(tree, path, node),
+            Line::TreeFault { tree, kind: _ } => self.has_tree(tree.as_bytes()),
             Line::Guest { guest, input } => {
                 *guest < 64 && (!self.has_guest(*guest) && self.allow_input(input))
             }
@@ -72,7 +100,7 @@ pub trait Declared {
             }
             Line::Configure { context, setting } => {
                 self.allow_set_up(context.guest)
-                    && (self.allow_context(context) && self.allow_setting(setting))
+                    && (self.allow_context(context) && self.allow_setting(context, setting))
             }
             Line::Call { context, call: _ } => {
                 self.has_guest(context.guest) && self.allow_context(context)
@@ -82,12 +110,36 @@ pub trait Declared {
         }
     }
 
+    /// Whether a name is none of what was declared.
+    final fn is_new(&self, name: &Name) -> bool
+        ensures { result ≡ is_new (names self.now) name.now }
+    {
+        let name = name.as_bytes();
+        !self.has_input(name) && (!self.has_output(name) && !self.has_tree(name))
+    }
+
     /// Whether a stream may be declared under a name.
     final fn allow_name(&self, name: &Name) -> bool
         ensures { result ≡ may_declare (names self.now) name.now }
     {
-        let name = name.as_bytes();
-        self.stream_count() < 64 && (!self.has_input(name) && !self.has_output(name))
+        self.stream_count() < 64 && self.is_new(name)
+    }
+
+    /// Whether a tree may be declared under a name.
+    final fn allow_tree(&self, name: &Name) -> bool
+        ensures { result ≡ may_declare_tree (names self.now) name.now }
+    {
+        self.tree_count() < 16 && self.is_new(name)
+    }
+
+    /// Whether a line may add a node to a tree.
+    final fn allow_node(&self, tree: &Name, path: &Text, node: &NewNode) -> bool
+        ensures { result ≡ node_stands (names self.now) tree.now path.now node.now }
+    {
+        match self.growing(tree.as_bytes()) {
+            Some(tree) => may_add(tree, path, node),
+            None => false,
+        }
     }
 
     /// Whether lines may say more of a guest.
@@ -108,14 +160,16 @@ pub trait Declared {
     }
 
     /// Whether they may say this of one of its contexts.
-    final fn allow_setting(&self, setting: &Setting) -> bool
-        ensures { result ≡ setting_stands (names self.now) setting.now }
+    final fn allow_setting(&self, context: &Context, setting: &Setting) -> bool
+        ensures { result ≡ setting_stands (names self.now) context.now setting.now }
     {
         match setting {
             Setting::Stdout(output) | Setting::Stderr(output) => self.allow_output(output),
             Setting::Random { source: _, bytes } => 1 <= bytes.len(),
             Setting::Seeded { .. } | Setting::InsecureSeed(_) | Setting::MaxRandom(_) => true,
             Setting::Env { .. } | Setting::Arg(_) | Setting::Cwd(_) => true,
+            Setting::Preopen { tree, .. } => self.has_tree(tree.as_bytes()),
+            Setting::Blocking(_) => !self.was_given(context),
         }
     }
 
@@ -149,6 +203,17 @@ pub trait Declared {
             StreamTask::Writer(name) => self.writes_behind(name.as_bytes()),
         }
     }
+}
+
+// whether a tree has room for a node
+fn may_add(tree: &Tree, path: &Text, node: &NewNode) -> bool
+    ensures { (now : WallTime) → result ≡ is_added (node_added tree.now.nodes path.now node.now now) }
+{
+    let size = match node {
+        NewNode::Directory | NewNode::Link(_) => 0,
+        NewNode::File(bytes) => bytes.len(),
+    };
+    tree.may_add(path.as_str(), size).is_ok()
 }
 
 // a named context's flag
@@ -195,7 +260,7 @@ fn has_flag(flags: &[bool; 64], guest: u32) -> bool
     guest < 64 && flags[guest as usize]
 }
 
-/// What the lines so far declared: guests and their named contexts, inputs and outputs, and which of
+/// What the lines so far declared: guests and their contexts, inputs, outputs and trees, and which of
 /// the guests have called.
 #[derive(Drop)]
 pub struct Declarations {
@@ -203,8 +268,13 @@ pub struct Declarations {
     called: [bool; 64],
     // 16 for each guest
     contexts: [bool; 1024],
+    // which were given directories, main contexts and named ones
+    given: [bool; 64],
+    given_named: [bool; 1024],
     inputs: NameSet,
     outputs: NameSet,
+    trees: Trees,
+    wall: WallTime,
 }
 
 impl Declared for Declarations {
@@ -247,6 +317,25 @@ impl Declared for Declarations {
     fn has_stdio(&self, name: &[u8]) -> bool {
         self.outputs.has_stdio(name)
     }
+
+    fn was_given(&self, context: &Context) -> bool {
+        match context.named {
+            None => has_flag(&self.given, context.guest),
+            Some(id) => has_context_flag(&self.given_named, context.guest, id),
+        }
+    }
+
+    fn tree_count(&self) -> usize {
+        self.trees.len()
+    }
+
+    fn has_tree(&self, name: &[u8]) -> bool {
+        self.trees.contains(name)
+    }
+
+    fn growing(&self, name: &[u8]) -> Option<&Tree> {
+        self.trees.growing(name)
+    }
 }
 
 impl Declarations {
@@ -259,8 +348,12 @@ impl Declarations {
             declared: [false; 64],
             called: [false; 64],
             contexts: [false; 1024],
+            given: [false; 64],
+            given_named: [false; 1024],
             inputs: NameSet::none(alloc),
             outputs: NameSet::none(alloc),
+            trees: Trees::none(alloc),
+            wall: WallTime::zero(),
         }
     }
 
@@ -282,13 +375,39 @@ impl Declarations {
             Line::Context { guest, id, .. } => {
                 self.contexts[*guest as usize * 16 + *id as usize] = true;
             }
-            Line::Call { context, call: _ } => self.called[context.guest as usize] = true,
-            Line::Capacity { .. }
+            Line::Tree { name } => self.trees.add(alloc, name, self.wall)?,
+            Line::Node { tree, path, node } => {
+                self.trees
+                    .add_node(alloc, tree.as_bytes(), path, node, self.wall)?;
+            }
+            Line::Configure {
+                context,
+                setting: Setting::Preopen { .. },
+            } => self.give(context),
+            Line::Clock(ClockSetting::Wall(now)) => self.wall = *now,
+            Line::Call { context, call: _ } => {
+                self.called[context.guest as usize] = true;
+                self.trees.close();
+            }
+            Line::TreeFault { .. }
+            | Line::Capacity { .. }
             | Line::Configure { .. }
             | Line::Worker(_)
             | Line::Turn(_)
             | Line::Clock(_) => {}
         }
         Ok(())
+    }
+
+    // a context is given a directory
+    fn give(&mut self, context: &Context)
+        requires guest { context.now.guest < 64 }
+        requires named { IfSome context.now.named (λ id. id < 16) }
+        ensures { names_in self.new ≡ record (names_in self.old) { has_preopen = also_given context.now true (names_in self.old).has_preopen } }
+    {
+        match context.named {
+            None => self.given[context.guest as usize] = true,
+            Some(id) => self.given_named[context.guest as usize * 16 + id as usize] = true,
+        }
     }
 }

@@ -1,5 +1,6 @@
 ghost use Rattle.std.specs.Prelude.{◌≡◌, ◌∷◌, ◌++◌, IfOk};
-ghost use Rattle.wasi_script.specs.Grammar.{meaning_by, without_fields, entry_calls, other_calls, clock_calls, random_calls, terminal_calls, clock_settings, on_clocks, on_random, source_of_word, source_set, other_lines, setting_lines, call_of, line_of, pipe_of, source_fields, out_pipe_of, sink_fields, buffered_of, turn_of, clock_of, guest_line_of, context_line_of, capacity_line_of, env_of, call_line_of, on_number as on_number_of, reading_of, exit_of, input_of, output_of, named_output};
+ghost use Rattle.wasi_script.specs.Grammar.{meaning_by, without_fields, entry_calls, other_calls, clock_calls, random_calls, terminal_calls, clock_settings, on_clocks, on_random, source_of_word, source_set, other_lines, setting_lines, tree_lines, call_of, line_of, pipe_of, source_fields, out_pipe_of, sink_fields, buffered_of, turn_of, clock_of, guest_line_of, context_line_of, capacity_line_of, env_of, call_line_of, on_number as on_number_of, reading_of, exit_of, input_of, output_of, named_output};
+ghost use Rattle.wasi_script.specs.Descriptors.{descriptor_calls, path_calls, pair_calls};
 ghost use Rattle.wasi_script.specs.Fields.{with_first, two_fields, number_of, u128_of};
 ghost use Rattle.wasi_script.specs.Contexts.{context_of};
 ghost use Rattle.wasi_script.specs.Name.{name_of};
@@ -13,6 +14,7 @@ ghost use Rattle.wasi_script.specs.Reads.{Reads};
 
 use crate::bytes::{ByteString, read_text};
 use crate::contexts::{parse_context, parse_named};
+use crate::descriptor_calls::parse_descriptor_call;
 use crate::lines::{
     Access, Call, ClockCall, ClockSetting, Context, EntryCall, ExitStatus, Input, InputDeclaration,
     Line, Output, OutputDeclaration, OwnCall, RandomCall, RandomSource, Setting, Standard,
@@ -23,6 +25,7 @@ use crate::numbers::{parse_budget, parse_capacity, parse_exit_code, parse_guest,
 use crate::plan::{ReadPlan, WritePlan};
 use crate::refusal::Refusal;
 use crate::times::parse_time;
+use crate::tree_lines::{context_and_truth, parse_preopen, parse_tree_line};
 use std::alloc::Global;
 use wasi_base::{OutOfMemory, Text};
 use wasi_words::{Parts, is, is_done, only, parse_number, parse_u128};
@@ -81,7 +84,7 @@ fn parse_line(alloc: Global, mut words: Parts) -> Result<Line, Refusal>
 
 // a line that declares no stream and makes no call
 fn parse_other_line(alloc: Global, word: &[u8], words: Parts) -> Result<Line, Refusal>
-    ensures { Reads result (meaning_by (other_lines ++ setting_lines) (word.now ∷ words.entry)) }
+    ensures { Reads result (meaning_by (other_lines ++ (setting_lines ++ tree_lines)) (word.now ∷ words.entry)) }
 {
     if is(word, b"guest") {
         parse_guest_line(alloc, words)
@@ -103,9 +106,9 @@ fn parse_other_line(alloc: Global, word: &[u8], words: Parts) -> Result<Line, Re
     }
 }
 
-// a line that says more of a context
+// a line that says more of a context, or one on a tree
 fn parse_setting_line(alloc: Global, word: &[u8], words: Parts) -> Result<Line, Refusal>
-    ensures { Reads result (meaning_by setting_lines (word.now ∷ words.entry)) }
+    ensures { Reads result (meaning_by (setting_lines ++ tree_lines) (word.now ∷ words.entry)) }
 {
     if is(word, b"stdout") {
         let (context, output) = context_and_output(alloc, words)?;
@@ -131,8 +134,13 @@ fn parse_setting_line(alloc: Global, word: &[u8], words: Parts) -> Result<Line, 
     } else if is(word, b"maxrandom") {
         let (context, size) = context_and_number(words).ok_or(Refusal::Invalid)?;
         Ok(configure(context, Setting::MaxRandom(size)))
+    } else if is(word, b"preopen") {
+        parse_preopen(alloc, words)
+    } else if is(word, b"blocking") {
+        let (context, blocking) = context_and_truth(words).ok_or(Refusal::Invalid)?;
+        Ok(configure(context, Setting::Blocking(blocking)))
     } else {
-        Err(Refusal::Invalid)
+        parse_tree_line(alloc, word, words)
     }
 }
 
@@ -392,7 +400,7 @@ fn open(words: Parts, stream: Standard, access: Access) -> Result<Call, Refusal>
 
 // a call on the entry of a number, or another one
 fn parse_entry_call(alloc: Global, name: &[u8], words: Parts) -> Result<Call, Refusal>
-    ensures { Reads result (meaning_by (entry_calls ++ (other_calls ++ (clock_calls ++ (random_calls ++ terminal_calls)))) (name.now ∷ words.entry)) }
+    ensures { Reads result (meaning_by (entry_calls ++ (descriptor_calls ++ (path_calls ++ (pair_calls ++ (other_calls ++ (clock_calls ++ (random_calls ++ terminal_calls))))))) (name.now ∷ words.entry)) }
 {
     if is(name, b"read") {
         let (number, size) = number_and_number(words)?;
@@ -422,7 +430,7 @@ fn parse_entry_call(alloc: Global, name: &[u8], words: Parts) -> Result<Call, Re
     } else if is(name, b"block") {
         on_number(words, EntryCall::Block)
     } else {
-        parse_other_call(name, words).ok_or(Refusal::Invalid)
+        parse_descriptor_call(alloc, name, words)
     }
 }
 
@@ -462,8 +470,8 @@ fn number_and_bytes(alloc: Global, mut words: Parts) -> Result<(u64, ByteString)
     Ok((number, bytes))
 }
 
-// a call on an entry of any kind, or on none
-fn parse_other_call(name: &[u8], words: Parts) -> Option<Call>
+/// A call on an entry of any kind, or on none.
+pub fn parse_other_call(name: &[u8], words: Parts) -> Option<Call>
     ensures { result ≡ meaning_by (other_calls ++ (clock_calls ++ (random_calls ++ terminal_calls))) (name.now ∷ words.entry) }
 {
     if is(name, b"drop") {
@@ -481,6 +489,8 @@ fn parse_other_call(name: &[u8], words: Parts) -> Option<Call>
         own(words, OwnCall::Arguments)
     } else if is(name, b"initial-cwd") {
         own(words, OwnCall::InitialCwd)
+    } else if is(name, b"get-directories") {
+        own(words, OwnCall::Directories)
     } else {
         parse_clock_call(name, words)
     }

@@ -4,6 +4,8 @@
 mod bytes;
 mod contexts;
 mod declarations;
+mod descriptor_calls;
+mod descriptor_fields;
 mod forms;
 mod generated;
 mod lines;
@@ -14,6 +16,8 @@ mod parse;
 mod plan;
 mod refusal;
 mod times;
+mod tree_lines;
+mod trees;
 
 pub use bytes::ByteString;
 pub use declarations::Declared;

@@ -250,20 +250,33 @@ pub enum OwnCall {
 pub enum Call {
     /// `get-stdin`, `get-stdout`, `get-stderr`, and `async-stdin` and so on for the polled access: a
     /// number for one of the guest's standard streams.
-    Open { stream: Standard, access: Access },
+    Open {
+        stream: Standard,
+        access: Access,
+    },
     /// `terminal-stdin`, `terminal-stdout`, `terminal-stderr`: a number for one of the guest's
     /// standard streams, where it is a terminal.
-    Terminal { stream: Standard },
+    Terminal {
+        stream: Standard,
+    },
     /// A call on the entry of a number.
-    On { number: u64, call: EntryCall },
+    On {
+        number: u64,
+        call: EntryCall,
+    },
     /// `drop N`: the entry of a number goes out of the guest's table.
-    Drop { number: u64 },
+    Drop {
+        number: u64,
+    },
     /// A call on no entry and no stream.
     Own(OwnCall),
     /// A call on the guest's random sources.
     Random(RandomCall),
     /// A call on the descriptor of a number.
-    Descriptor { number: u64, call: DescriptorCall },
+    Descriptor {
+        number: u64,
+        call: DescriptorCall,
+    },
     /// A call on the descriptors of two numbers.
     Pair {
         number: u64,
