@@ -23,7 +23,7 @@ pub fn line_fields(word: &[u8]) -> Option<&'static [Field]> {
         b"guest" => Some(&[Field::NewGuest, Field::Input]),
         b"tree" => Some(&[Field::NewTree]),
         b"treedir" => Some(&[Field::GrowingTree, Field::Text]),
-        b"treefile" => Some(&[Field::GrowingTree, Field::Text, Field::Bytes]),
+        b"treefile" => Some(&[Field::GrowingTree, Field::Text, Field::DeclaredBytes]),
         b"treelink" => Some(&[Field::GrowingTree, Field::Text, Field::Text]),
         b"treefail" => Some(&[Field::Tree, Field::Fault]),
         b"preopen" => Some(&[Field::Given, Field::Tree, Field::Text, Field::Perms]),
