@@ -1,5 +1,7 @@
 //! Bad lines with the columns and the reasons that they have by the rules of scripts.
 
+mod trees;
+
 use crate::{BadLine, Reason, explain};
 use std::alloc::Global;
 use std::process::Abort;
@@ -99,7 +101,7 @@ fn bytes_and_blanks(rt: HostRuntime) -> Result<(), Fail> {
 fn words_of_lines_and_calls(rt: HostRuntime) -> Result<(), Fail> {
     let bad_lines = [
         ("CAPTURE", 1, Reason::NoSuchLine),
-        ("treefile A - -", 1, Reason::NoSuchLine),
+        ("treefork A - -", 1, Reason::NoSuchLine),
         ("capture 1", 9, Reason::ExtraWord),
         ("pipe", 5, Reason::MissingWord),
         ("pipe Q", 7, Reason::MissingWord),
