@@ -20,7 +20,7 @@ fn two_contexts_have_streams_and_sources_of_their_own(rt: HostRuntime) -> Result
         &rt,
         rt.alloc(),
         b"pipe A 6162\npipe B 63\noutpipe O 9\noutpipe P 9\nguest 0 A\ncontext 0.3 B\nstdout 0 O\nstdout 0.3 P\nrandom 0 secure 01\nrandom 0.3 secure 0203\nmaxrandom 0.3 2\ncall 0 get-stdin\ncall 0.3 get-stdin\ncall 0.3 read 0 9\ncall 0 read 1 9\ncall 0.3 get-stdout\ncall 0 write 2 7879\ncall 0 get-stdout\ncall 0.3 write 3 7a\ncall 0 random-bytes 3\ncall 0.3 random-bytes 2\ncall 0.3 random-bytes 3\ncall 0 random-bytes 1\n",
-        b"ok\nok\nok\nok\nok\nok\nok\nok\nok\nok\nok\nhandle 0\nhandle 1\nbytes 6162\nbytes 63\nhandle 2\nok\nhandle 3\nok\nbytes 010101\nbytes 0203\ntrap requested len 3 exceeds limit 2\nended\noutput O 7a\noutput P 7879\n",
+        b"ok\nok\nok\nok\nok\nok\nok\nok\nok\nok\nok\nhandle 0\nhandle 1\nbytes 6162\nbytes 63\nhandle 2\nok\nhandle 3\nok\nbytes 010101\nbytes 0303\ntrap requested len 3 exceeds limit 2\nended\noutput O 7a\noutput P 7879\n",
     )
 }
 
