@@ -3,9 +3,11 @@ use Rattle.wasi_random.proofs.KnownFacts.{byte_more, batch_bytes, batch_left}
 use Rattle.wasi_random.proofs.known.push_batch.Goals as goal
 
 pub loop-word-preserved : goal.loop-word-preserved
-loop-word-preserved c =
-    (byte_more _ _ _ _ _ _ (search rules) c.loop-word.invariant.0 c.low_byte.ensures c.push_reserved.ensures.items,
-    search rules, search rules)
+loop-word-preserved c = (
+  byte_more _ _ _ _ _ _ (search rules) c.loop-word.invariant.0 c.low_byte.ensures c.push_reserved.ensures.items,
+  search rules,
+  search rules,
+)
 
 pub returns-clause-bytes : goal.returns-clause-bytes
 returns-clause-bytes c =
