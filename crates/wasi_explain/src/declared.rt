@@ -1,4 +1,5 @@
-use crate::fields::{Field, guest_number};
+use crate::contexts::{Context, context_of};
+use crate::fields::Field;
 use crate::forms::line_fields;
 use crate::words::Words;
 use std::alloc::Global;
@@ -34,6 +35,8 @@ struct Row<'a> {
 struct Guest {
     is_declared: bool,
     has_called: bool,
+    /// Which of its named contexts.
+    contexts: [bool; 16],
 }
 
 /// What lines declared, and which guests called in them.
@@ -77,6 +80,7 @@ impl<'a> Declared<'a> {
             Field::NewStdio => self.add_stream(word, Stream::Output, Kind::Stdio)?,
             Field::NewBuffered => self.add_stream(word, Stream::Output, Kind::WithTask)?,
             Field::NewGuest => self.declare_guest(word),
+            Field::NewContext => self.declare_context(word),
             Field::Caller => self.add_caller(word),
             _ => {}
         }
@@ -99,6 +103,24 @@ impl<'a> Declared<'a> {
         }
     }
 
+    fn declare_context(&mut self, word: &[u8]) {
+        if let Ok(
+            Context {
+                guest,
+                named: Some(id),
+            },
+        ) = context_of(word)
+        {
+            self.set_context(guest, id);
+        }
+    }
+
+    fn set_context(&mut self, guest: u64, id: u64) {
+        if guest < 64 && id < 16 {
+            self.guests[guest as usize].contexts[id as usize] = true;
+        }
+    }
+
     fn add_caller(&mut self, word: &[u8]) {
         if let Some(guest) = self.guest_mut(word) {
             guest.has_called = true;
@@ -106,8 +128,8 @@ impl<'a> Declared<'a> {
     }
 
     fn guest_mut(&mut self, word: &[u8]) -> Option<&mut Guest> {
-        let number = guest_number(word).ok()?;
-        self.guests.get_mut(number as usize)
+        let context = context_of(word).ok()?;
+        self.guests.get_mut(context.guest as usize)
     }
 
     pub fn has_guest(&self, number: u64) -> bool {
@@ -116,6 +138,11 @@ impl<'a> Declared<'a> {
 
     pub fn has_called(&self, number: u64) -> bool {
         number < 64 && self.guests[number as usize].has_called
+    }
+
+    /// Whether a guest has a named context of a number.
+    pub fn has_context(&self, guest: u64, id: u64) -> bool {
+        guest < 64 && id < 16 && self.guests[guest as usize].contexts[id as usize]
     }
 
     /// What the stream of a name is, if there is one.

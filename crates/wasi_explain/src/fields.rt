@@ -1,3 +1,4 @@
+use crate::contexts::{Context, context_of};
 use crate::declared::{Declared, Stream};
 use crate::plans::{check_read_plan, check_write_plan};
 use crate::reason::Reason;
@@ -20,9 +21,13 @@ pub enum Field {
     Task(Stream),
     /// The guest that the line declares.
     NewGuest,
+    /// The named context that the line declares, of a guest that has made no call.
+    NewContext,
     /// A declared guest that has made no call.
+    ConfiguredGuest,
+    /// A declared context of a guest that has made no call.
     Configured,
-    /// A declared guest, which makes a call.
+    /// A declared context, through which its guest makes a call.
     Caller,
     /// What a guest may read.
     Input,
@@ -59,6 +64,8 @@ impl Field {
                 check_new_name(word, declared)
             }
             Field::NewGuest => check_new_guest(word, declared),
+            Field::NewContext => check_new_context(word, declared),
+            Field::ConfiguredGuest => check_quiet(guest_number(word)?, declared),
             Field::Configured => check_configured(word, declared),
             Field::Caller => check_caller(word, declared),
             Field::Input => check_input(word, declared),
@@ -125,26 +132,52 @@ fn check_new_guest(word: &[u8], declared: &Declared) -> Result<(), Reason> {
     }
 }
 
-fn declared_guest(word: &[u8], declared: &Declared) -> Result<u64, Reason> {
-    let guest = guest_number(word)?;
+fn check_new_context(word: &[u8], declared: &Declared) -> Result<(), Reason> {
+    let Context { guest, named } = context_of(word)?;
+    let id = named.ok_or(Reason::NoContextNumber)?;
+    check_quiet(guest, declared)?;
+    if declared.has_context(guest, id) {
+        Err(Reason::ContextTwice)
+    } else {
+        Ok(())
+    }
+}
+
+fn check_caller(word: &[u8], declared: &Declared) -> Result<(), Reason> {
+    let context = context_of(word)?;
+    check_guest(context.guest, declared)?;
+    check_context(context, declared)
+}
+
+fn check_configured(word: &[u8], declared: &Declared) -> Result<(), Reason> {
+    let context = context_of(word)?;
+    check_quiet(context.guest, declared)?;
+    check_context(context, declared)
+}
+
+fn check_guest(guest: u64, declared: &Declared) -> Result<(), Reason> {
     if declared.has_guest(guest) {
-        Ok(guest)
+        Ok(())
     } else {
         Err(Reason::UnknownGuest)
     }
 }
 
-fn check_caller(word: &[u8], declared: &Declared) -> Result<(), Reason> {
-    declared_guest(word, declared)?;
-    Ok(())
-}
-
-fn check_configured(word: &[u8], declared: &Declared) -> Result<(), Reason> {
-    let guest = declared_guest(word, declared)?;
+// a declared guest that has made no call
+fn check_quiet(guest: u64, declared: &Declared) -> Result<(), Reason> {
+    check_guest(guest, declared)?;
     if declared.has_called(guest) {
         Err(Reason::AfterFirstCall)
     } else {
         Ok(())
+    }
+}
+
+// a context that a declared guest has
+fn check_context(context: Context, declared: &Declared) -> Result<(), Reason> {
+    match context.named {
+        Some(id) if !declared.has_context(context.guest, id) => Err(Reason::UnknownContext),
+        _ => Ok(()),
     }
 }
 

@@ -3,7 +3,7 @@
 use crate::declared::Stream;
 use crate::fields::Field;
 
-/// What the words of a line after its first one have to be. After `call G` stand the name of a call
+/// What the words of a line after its first one have to be. After `call CTX` stand the name of a call
 /// and its words, after `turn` the kind of the task and its words, and after `clock` what is set and
 /// its words.
 pub fn line_fields(word: &[u8]) -> Option<&'static [Field]> {
@@ -21,8 +21,9 @@ pub fn line_fields(word: &[u8]) -> Option<&'static [Field]> {
             Field::Budget,
         ]),
         b"guest" => Some(&[Field::NewGuest, Field::Input]),
+        b"context" => Some(&[Field::NewContext, Field::Input]),
         b"stdout" | b"stderr" => Some(&[Field::Configured, Field::Output]),
-        b"capacity" => Some(&[Field::Configured, Field::Capacity]),
+        b"capacity" => Some(&[Field::ConfiguredGuest, Field::Capacity]),
         b"env" => Some(&[Field::Configured, Field::Text, Field::Text]),
         b"arg" | b"cwd" => Some(&[Field::Configured, Field::Text]),
         b"random" => Some(&[Field::Configured, Field::RandomSource, Field::RepeatedBytes]),

@@ -3,6 +3,7 @@
 
 mod bad_line;
 mod check;
+mod contexts;
 mod declared;
 mod fields;
 mod forms;

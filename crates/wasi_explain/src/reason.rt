@@ -33,6 +33,8 @@ pub enum Reason {
     TooManySeedDigits,
     #[error("number out of range: 0 to 340282366920938463463374607431768211455")]
     SeedOutOfRange,
+    #[error("no number of a context after the guest's")]
+    NoContextNumber,
     #[error("neither secure nor insecure")]
     BadSource,
     #[error("no bytes")]
@@ -69,6 +71,8 @@ pub enum Reason {
     InputAsOutput,
     #[error("guest not declared yet")]
     UnknownGuest,
+    #[error("context not declared yet")]
+    UnknownContext,
     #[error("input not declared yet")]
     UnknownInput,
     #[error("output not declared yet")]
@@ -79,6 +83,8 @@ pub enum Reason {
     NoTerminal,
     #[error("guest declared twice")]
     GuestTwice,
+    #[error("context declared twice")]
+    ContextTwice,
     #[error("name declared twice")]
     NameTwice,
     #[error("more than 64 names")]

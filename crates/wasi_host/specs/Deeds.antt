@@ -1,5 +1,5 @@
 -- What a rule asks to be done for a call, and what doing it leaves of what the guest owns.
-use Rattle.std.specs.Prelude.{ℕ, Bool, true, false, cond, nat_eq, Option, Some, None}
+use Rattle.std.specs.Prelude.{ℕ, Bool, true, false, cond, nat_eq, ◌&&◌, Option, Some, None}
 use Rattle.wasi_base.specs.declared.trap_text.TrapText.{TrapText}
 use Rattle.wasi_base.specs.declared.trap_text.TrapText.TheVariants.{ResourceNotPresent, ResourceWrongType, ResourceHasChildren, ResourceTableFull}
 use Rattle.wasi_table.specs.Table.{Table, held_at, entry_in, live_count, next_number, with_pushed, with_entry, without, has_children}
@@ -9,6 +9,7 @@ use Rattle.wasi_reply.specs.declared.reply.Reply.{Reply}
 use Rattle.wasi_reply.specs.declared.reply.Reply.TheVariants as reply
 use Rattle.wasi_script.specs.declared.lines.Standard.{Standard}
 use Rattle.wasi_script.specs.declared.lines.Standard.TheVariants as standard
+use Rattle.wasi_host.specs.Contexts.{same_context}
 use Rattle.wasi_host.specs.declared.entry.Entry.{Entry}
 use Rattle.wasi_host.specs.declared.entry.Entry.TheVariants as entry
 use Rattle.wasi_host.specs.declared.entry.SharedEntry.TheVariants as shared
@@ -38,12 +39,12 @@ entry_at own number = entry_in (held_at own.table number)
 -- ---- which entries stand alone, which stand under which, and which in place of which
 abbrev pub stands_alone : Entry → Bool
 stands_alone (entry.Shared (shared.Pollable wait)) = false
-stands_alone (entry.Stream to stream.Pollable) = false
+stands_alone (entry.Stream context to stream.Pollable) = false
 stands_alone other = true
 
 abbrev pub goes_under : Entry → Option Entry → Bool
 goes_under (entry.Shared (shared.Pollable wait)) (Some (entry.Shared shared.Reader)) = true
-goes_under (entry.Stream to stream.Pollable) (Some (entry.Stream on stream.Plain)) = true
+goes_under (entry.Stream context to stream.Pollable) (Some (entry.Stream other on stream.Plain)) = true
 goes_under other parent = false
 
 abbrev pub may_make : Entry → Option ℕ → Own → Bool
@@ -59,7 +60,7 @@ same_standard one other = false
 abbrev pub may_change : Option Entry → Entry → Bool
 may_change (Some (entry.Shared (shared.Polled old))) (entry.Shared (shared.Polled new)) = true
 may_change (Some (entry.Shared (shared.Pollable old))) (entry.Shared (shared.Pollable new)) = true
-may_change (Some (entry.Stream to (stream.Polled old))) (entry.Stream on (stream.Polled new)) = same_standard to on
+may_change (Some (entry.Stream context to (stream.Polled old))) (entry.Stream other on (stream.Polled new)) = same_context context other && same_standard to on
 may_change (Some (entry.Own (kept.Deadline old))) (entry.Own (kept.Deadline new)) = true
 may_change old new = false
 

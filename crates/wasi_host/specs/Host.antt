@@ -36,6 +36,7 @@ use Rattle.wasi_script.specs.declared.lines.WorkerTurn.{WorkerTurn}
 use Rattle.wasi_script.specs.declared.lines.WorkerTurn.TheVariants as turn
 use Rattle.wasi_script.specs.declared.lines.StreamTask.{StreamTask}
 use Rattle.wasi_script.specs.declared.lines.StreamTask.TheVariants as task
+use Rattle.wasi_script.specs.declared.lines.Context.{Context}
 use Rattle.wasi_script.specs.declared.lines.Line.{Line}
 use Rattle.wasi_script.specs.declared.lines.Line.TheVariants as line
 use Rattle.wasi_script.specs.Grammar.{Names, may_stand}
@@ -58,6 +59,7 @@ use Rattle.wasi_host.specs.declared.deed.Deed.{Deed}
 use Rattle.wasi_host.specs.declared.deed.Deed.TheVariants.{Make}
 use Rattle.wasi_host.specs.declared.leaver.Leaver.{Leaver}
 use Rattle.wasi_host.specs.declared.leaver.Leaver.TheVariants as leaver
+use Rattle.wasi_host.specs.Contexts.{ByContext, only_main, with_named, has_context, at_context, put_context}
 use Rattle.wasi_host.specs.Turns.{untaken}
 use Rattle.wasi_host.specs.InStreams.{input_without}
 use Rattle.wasi_host.specs.OutStreams.{output_without}
@@ -68,31 +70,52 @@ use Rattle.wasi_random.specs.Known.{of_bytes, of_number}
 use Rattle.wasi_host.specs.Random.{Sources, Drawn, new_sources, with_source, drawn}
 use Rattle.wasi_host.specs.Calls.{Settings, Owner, Doing, opened, opened_terminal, asked, called, sent, awaited, owned}
 
--- a guest: what configuration lines say of it, what it owns, its random sources, and whether it was called and whether
--- it ended
+-- a guest: what configuration lines say of each of its contexts, the one table of all that it owns, the random sources of
+-- each context, and whether it was called and whether it ended
 pub record Guest : Type 0 where
-  pub settings : Settings
+  pub settings : ByContext Settings
   pub own : Own
-  pub sources : Sources
+  pub sources : ByContext Sources
   pub was_called : Bool
   pub ended : Bool
 
--- a guest has room for 1024 entries, its outputs go nowhere, its environment and its arguments are empty, it begins in no
--- directory, it may ask for 67108864 random bytes at a time, and its seed for insecure uses is 0, unless lines say otherwise
-abbrev pub new_guest : Input → Guest
-new_guest input = record { settings = record { input = input; stdout = output.Empty; stderr = output.Empty; environment = []; arguments = []; initial_cwd = None; insecure_seed = 0; most_random = 67108864 }; own = record { table = new_table 1024 }; sources = new_sources; was_called = false; ended = false }
+-- a context's outputs go nowhere, its environment and its arguments are empty, it begins in no directory, it may ask for
+-- 67108864 random bytes at a time, and its seed for insecure uses is 0, unless lines say otherwise
+abbrev pub new_settings : Input → Settings
+new_settings input = record { input = input; stdout = output.Empty; stderr = output.Empty; environment = []; arguments = []; initial_cwd = None; insecure_seed = 0; most_random = 67108864 }
 
-abbrev pub configured : Setting → Guest → Guest
-configured (setting.Stdout it) guest = record guest { settings = record guest.settings { stdout = it } }
-configured (setting.Stderr it) guest = record guest { settings = record guest.settings { stderr = it } }
-configured (setting.Capacity capacity) guest = record guest { own = record { table = new_table capacity } }
-configured (setting.Random from bytes) guest = record guest { sources = with_source from (of_bytes bytes) guest.sources }
-configured (setting.Seeded from seed) guest = record guest { sources = with_source from (of_number seed) guest.sources }
-configured (setting.InsecureSeed seed) guest = record guest { settings = record guest.settings { insecure_seed = seed } }
-configured (setting.Env key value) guest = record guest { settings = record guest.settings { environment = guest.settings.environment ++ (key, value) ∷ [] } }
-configured (setting.Arg text) guest = record guest { settings = record guest.settings { arguments = guest.settings.arguments ++ text ∷ [] } }
-configured (setting.Cwd text) guest = record guest { settings = record guest.settings { initial_cwd = Some text } }
-configured (setting.MaxRandom size) guest = record guest { settings = record guest.settings { most_random = size } }
+-- a guest has its main context, and room for 1024 entries unless a line says otherwise
+abbrev pub new_guest : Input → Guest
+new_guest input = record { settings = only_main (new_settings input); own = record { table = new_table 1024 }; sources = only_main new_sources; was_called = false; ended = false }
+
+-- a named context more
+abbrev pub with_context : ℕ → Input → Guest → Guest
+with_context id input guest = record guest { settings = with_named id (new_settings input) guest.settings; sources = with_named id new_sources guest.sources }
+
+abbrev pub with_capacity : ℕ → Guest → Guest
+with_capacity capacity guest = record guest { own = record { table = new_table capacity } }
+
+-- what a line says of one context, and of no other
+abbrev pub settings_set : Setting → Settings → Settings
+settings_set (setting.Stdout it) settings = record settings { stdout = it }
+settings_set (setting.Stderr it) settings = record settings { stderr = it }
+settings_set (setting.InsecureSeed seed) settings = record settings { insecure_seed = seed }
+settings_set (setting.Env key value) settings = record settings { environment = settings.environment ++ (key, value) ∷ [] }
+settings_set (setting.Arg text) settings = record settings { arguments = settings.arguments ++ text ∷ [] }
+settings_set (setting.Cwd text) settings = record settings { initial_cwd = Some text }
+settings_set (setting.MaxRandom size) settings = record settings { most_random = size }
+settings_set other settings = settings
+
+abbrev pub sources_set : Setting → Sources → Sources
+sources_set (setting.Random from bytes) sources = with_source from (of_bytes bytes) sources
+sources_set (setting.Seeded from seed) sources = with_source from (of_number seed) sources
+sources_set other sources = sources
+
+abbrev pub configured : Setting → Option ℕ → Guest → Guest
+configured it context guest = record guest {
+  settings = put_context context (settings_set it (at_context context guest.settings)) guest.settings;
+  sources = put_context context (sources_set it (at_context context guest.sources)) guest.sources;
+}
 
 -- ---- the declared streams with their names, each list in order of declaration
 abbrev pub Named : Type 0 → Type 0
@@ -138,14 +161,22 @@ leave_input who from streams = put_input from (input_without who (input_at from 
 abbrev pub leave_output : Leaver → Output → Streams → Streams
 leave_output who to streams = put_output to (output_without who (output_at to streams)) streams
 
-abbrev pub leave_entry : Leaver → Option Entry → Settings → Streams → Streams
-leave_entry who (Some (entry.Stream standard.Input it)) settings streams = leave_input who settings.input streams
-leave_entry who (Some (entry.Stream standard.Output it)) settings streams = leave_output who settings.stdout streams
-leave_entry who (Some (entry.Stream standard.Error it)) settings streams = leave_output who settings.stderr streams
+abbrev pub leave_entry : Leaver → Option Entry → ByContext Settings → Streams → Streams
+leave_entry who (Some (entry.Stream context standard.Input it)) settings streams = leave_input who (at_context context settings).input streams
+leave_entry who (Some (entry.Stream context standard.Output it)) settings streams = leave_output who (at_context context settings).stdout streams
+leave_entry who (Some (entry.Stream context standard.Error it)) settings streams = leave_output who (at_context context settings).stderr streams
 leave_entry who other settings streams = streams
 
-abbrev pub leave_all : Leaver → Settings → Streams → Streams
-leave_all who settings streams = leave_output who settings.stderr (leave_output who settings.stdout (leave_input who settings.input streams))
+-- .. on those of one context, and of all
+abbrev pub leave_context : Leaver → Settings → Streams → Streams
+leave_context who settings streams = leave_output who settings.stderr (leave_output who settings.stdout (leave_input who settings.input streams))
+
+abbrev pub leave_each : Leaver → List (ℕ × Settings) → Streams → Streams
+leave_each who [] streams = streams
+leave_each who (row ∷ rows) streams = leave_each who rows (leave_context who row.1 streams)
+
+abbrev pub leave_all : Leaver → ByContext Settings → Streams → Streams
+leave_all who settings streams = leave_each who settings.named (leave_context who settings.main streams)
 
 -- ---- the host: the shared input, the guests by their numbers, the streams, and the clocks
 pub record Host : Type 0 where
@@ -184,8 +215,8 @@ settled guest done shared streams = record { reply = done.reply; guest = left_gu
 -- whatever its rules are.
 pub record CallRules : Type 0 where
   pub asked : EntryCall → Owner → SharedEntry → Shared → Doing Shared
-  pub called : EntryCall → Owner → StreamEntry → InStream → Doing InStream
-  pub sent : EntryCall → Standard → Owner → StreamEntry → OutStream → Doing OutStream
+  pub called : EntryCall → Option ℕ → Owner → StreamEntry → InStream → Doing InStream
+  pub sent : EntryCall → Option ℕ → Standard → Owner → StreamEntry → OutStream → Doing OutStream
   pub awaited : EntryCall → Owner → OwnEntry → Deed
   pub owned : OwnCall → Settings → Own → Deed
   pub drawn : RandomCall → Settings → Sources → Drawn
@@ -216,53 +247,53 @@ on_output it to guest shared streams = settled guest (act (apart it.deed) guest.
 abbrev pub answer_at : CallRules → EntryCall → Owner → Option Entry → Guest → Shared → Streams → Answered
 answer_at rules it at None guest shared streams = settled guest (trapped ResourceNotPresent guest.own) shared streams
 answer_at rules it at (Some (entry.Shared on)) guest shared streams = on_shared (rules.asked it at on shared) guest streams
-answer_at rules it at (Some (entry.Stream standard.Input on)) guest shared streams = on_input (rules.called it at on (input_at guest.settings.input streams)) guest.settings.input guest shared streams
-answer_at rules it at (Some (entry.Stream standard.Output on)) guest shared streams = on_output (rules.sent it standard.Output at on (output_at guest.settings.stdout streams)) guest.settings.stdout guest shared streams
-answer_at rules it at (Some (entry.Stream standard.Error on)) guest shared streams = on_output (rules.sent it standard.Error at on (output_at guest.settings.stderr streams)) guest.settings.stderr guest shared streams
+answer_at rules it at (Some (entry.Stream context standard.Input on)) guest shared streams = let from = (at_context context guest.settings).input in on_input (rules.called it context at on (input_at from streams)) from guest shared streams
+answer_at rules it at (Some (entry.Stream context standard.Output on)) guest shared streams = let to = (at_context context guest.settings).stdout in on_output (rules.sent it context standard.Output at on (output_at to streams)) to guest shared streams
+answer_at rules it at (Some (entry.Stream context standard.Error on)) guest shared streams = let to = (at_context context guest.settings).stderr in on_output (rules.sent it context standard.Error at on (output_at to streams)) to guest shared streams
 answer_at rules it at (Some (entry.Own on)) guest shared streams = settled guest (act (apart (rules.awaited it at on)) guest.own) shared streams
 
--- a call on the guest's random sources: its entries stay as they are
-abbrev pub on_sources : Drawn → Guest → Shared → Streams → Answered
-on_sources it guest shared streams = settled (record guest { sources = it.left }) (only_told it.told guest.own) shared streams
+-- a call on the random sources of a context: the guest's entries and its other contexts stay as they are
+abbrev pub on_sources : Drawn → Option ℕ → Guest → Shared → Streams → Answered
+on_sources it context guest shared streams = settled (record guest { sources = put_context context it.left guest.sources }) (only_told it.told guest.own) shared streams
 
--- by the kind of the call
-abbrev pub answer_to : CallRules → Call → ℕ → Guest → Shared → Streams → Answered
-answer_to rules (call.Open it how) g guest shared streams = settled guest (act (Make (opened guest.settings.input it how) None) guest.own) shared streams
-answer_to rules (call.Terminal it) g guest shared streams = settled guest (act (apart (opened_terminal it guest.settings)) guest.own) shared streams
-answer_to rules (call.On number it) g guest shared streams = answer_at rules it (record { guest = g; number = number }) (entry_at guest.own number) guest shared streams
-answer_to rules (call.Drop number) g guest shared streams = settled guest (dropped number guest.own) shared (leave_entry (leaver.Entry (record { guest = g; number = number })) (entry_at guest.own number) guest.settings streams)
-answer_to rules (call.Own it) g guest shared streams = settled guest (act (apart (rules.owned it guest.settings guest.own)) guest.own) shared streams
-answer_to rules (call.Random it) g guest shared streams = on_sources (rules.drawn it guest.settings guest.sources) guest shared streams
+-- By the kind of the call. It goes through a context, and works on the guest's one table.
+abbrev pub answer_to : CallRules → Call → ℕ → Option ℕ → Guest → Shared → Streams → Answered
+answer_to rules (call.Open it how) g context guest shared streams = settled guest (act (Make (opened (at_context context guest.settings).input context it how) None) guest.own) shared streams
+answer_to rules (call.Terminal it) g context guest shared streams = settled guest (act (apart (opened_terminal it (at_context context guest.settings))) guest.own) shared streams
+answer_to rules (call.On number it) g context guest shared streams = answer_at rules it (record { guest = g; number = number }) (entry_at guest.own number) guest shared streams
+answer_to rules (call.Drop number) g context guest shared streams = settled guest (dropped number guest.own) shared (leave_entry (leaver.Entry (record { guest = g; number = number })) (entry_at guest.own number) guest.settings streams)
+answer_to rules (call.Own it) g context guest shared streams = settled guest (act (apart (rules.owned it (at_context context guest.settings) guest.own)) guest.own) shared streams
+answer_to rules (call.Random it) g context guest shared streams = on_sources (rules.drawn it (at_context context guest.settings) (at_context context guest.sources)) context guest shared streams
 
 -- a guest that its reply ends passes its turns on
-abbrev pub left_streams : Reply → ℕ → Settings → Streams → Streams
+abbrev pub left_streams : Reply → ℕ → ByContext Settings → Streams → Streams
 left_streams answer g settings streams = cond (ends answer) (leave_all (leaver.Guest g) settings streams) streams
 
-abbrev pub passed_on : ℕ → Settings → Answered → Answered
+abbrev pub passed_on : ℕ → ByContext Settings → Answered → Answered
 passed_on g settings done = record done { streams = left_streams done.reply g settings done.streams }
 
 -- a guest that ended is told so, and nothing else happens
-abbrev pub answer_by : Bool → CallRules → Call → ℕ → Guest → Shared → Streams → Answered
-answer_by true rules it g guest shared streams = record { reply = reply.Ended; guest = record guest { was_called = true }; shared = shared; streams = streams }
-answer_by false rules it g guest shared streams = passed_on g guest.settings (answer_to rules it g guest shared streams)
+abbrev pub answer_by : Bool → CallRules → Call → ℕ → Option ℕ → Guest → Shared → Streams → Answered
+answer_by true rules it g context guest shared streams = record { reply = reply.Ended; guest = record guest { was_called = true }; shared = shared; streams = streams }
+answer_by false rules it g context guest shared streams = passed_on g guest.settings (answer_to rules it g context guest shared streams)
 
 -- a guest, taken out of the host and put back
 abbrev pub guest_of : Host → ℕ → Option Guest
 guest_of host guest = get_or host.guests guest None
 
-abbrev pub answer_in : CallRules → Call → ℕ → Option Guest → Shared → Streams → Answered
-answer_in rules it g None shared streams = record { reply = reply.Ended; guest = new_guest input.Empty; shared = shared; streams = streams }
-answer_in rules it g (Some guest) shared streams = answer_by guest.ended rules it g guest shared streams
+abbrev pub answer_in : CallRules → Call → Context → Option Guest → Shared → Streams → Answered
+answer_in rules it caller None shared streams = record { reply = reply.Ended; guest = new_guest input.Empty; shared = shared; streams = streams }
+answer_in rules it caller (Some guest) shared streams = answer_by guest.ended rules it caller.guest caller.named guest shared streams
 
-abbrev pub answer : CallRules → Call → ℕ → Host → Answered
-answer rules it g host = answer_in rules it g (guest_of host g) host.shared host.streams
+abbrev pub answer : CallRules → Call → Context → Host → Answered
+answer rules it caller host = answer_in rules it caller (guest_of host caller.guest) host.shared host.streams
 
 -- the host after a guest's call, by these rules
 abbrev pub put_answered : Host → ℕ → Answered → Host
 put_answered host g done = record host { shared = done.shared; guests = set host.guests g (Some done.guest); streams = done.streams }
 
-abbrev pub called_in : CallRules → Call → ℕ → Host → Host
-called_in rules it g host = put_answered host g (answer rules it g host)
+abbrev pub called_in : CallRules → Call → Context → Host → Host
+called_in rules it caller host = put_answered host caller.guest (answer rules it caller host)
 
 -- ---- what lines declare and configure
 abbrev pub new_outlet : ℕ → List SinkPlan → Outlet
@@ -325,7 +356,7 @@ after_task rules (task.Writer name) streams = put_output (output.Named name) (ru
 
 -- ---- the reply to a step, and the host after it; a delivery gives `given`
 abbrev pub reply_by : Rules → Line → Host → Given → Reply
-reply_by rules (line.Call g it) host given = (answer (rules.calls host.clocks) it g host).reply
+reply_by rules (line.Call caller it) host given = (answer (rules.calls host.clocks) it caller host).reply
 reply_by rules (line.Worker it) host given = reply.Worked (turn_told it host.shared given)
 reply_by rules (line.Turn it) host given = reply.Worked (task_told rules it host.streams)
 reply_by rules other host given = reply.Told told.Ok
@@ -334,8 +365,10 @@ abbrev pub host_by : Rules → Line → Host → Given → Host
 host_by rules (line.Input name it) host given = with_input name (new_input it) host
 host_by rules (line.Output name it) host given = with_output name (new_output it) host
 host_by rules (line.Guest g input) host given = with_guest g (Some (new_guest input)) host
-host_by rules (line.Configure g it) host given = with_guest g (option_map (configured it) (guest_of host g)) host
-host_by rules (line.Call g it) host given = called_in (rules.calls host.clocks) it g host
+host_by rules (line.Context g id input) host given = with_guest g (option_map (with_context id input) (guest_of host g)) host
+host_by rules (line.Capacity g capacity) host given = with_guest g (option_map (with_capacity capacity) (guest_of host g)) host
+host_by rules (line.Configure caller it) host given = with_guest caller.guest (option_map (configured it caller.named) (guest_of host caller.guest)) host
+host_by rules (line.Call caller it) host given = called_in (rules.calls host.clocks) it caller host
 host_by rules (line.Worker it) host given = record host { shared = after_turn it host.shared given }
 host_by rules (line.Turn it) host given = record host { streams = after_task rules it host.streams }
 host_by rules (line.Clock it) host given = record host { clocks = clocks_after it host.clocks }
@@ -398,6 +431,10 @@ abbrev pub was_called_in : Option Guest → Bool
 was_called_in None = false
 was_called_in (Some guest) = guest.was_called
 
+abbrev pub has_context_in : Option ℕ → Option Guest → Bool
+has_context_in context None = false
+has_context_in context (Some guest) = has_context context guest.settings
+
 abbrev pub names_in : {A : Type 0} → Named A → List (List ℕ)
 names_in named = map (λ row. row.0) named
 
@@ -428,6 +465,7 @@ abbrev pub names_of : Host → Names
 names_of host = record {
   is_guest = λ g. is_some (guest_of host g);
   was_called = λ g. was_called_in (guest_of host g);
+  is_context = λ g id. has_context_in (Some id) (guest_of host g);
   inputs = names_in host.streams.inputs;
   outputs = names_in host.streams.outputs;
   reads_ahead = reads_ahead_in host.streams;

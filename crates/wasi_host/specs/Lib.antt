@@ -1,4 +1,5 @@
 pub mod Entry
+pub mod Contexts
 pub mod Clocks
 pub mod Deeds
 pub mod Turns

@@ -1,3 +1,4 @@
+pub mod Contexts
 pub mod Entries
 pub mod Shown
 pub mod SharedCalls

@@ -1,5 +1,6 @@
 ghost use Rattle.std.specs.Prelude.{◌≡◌, Some};
 ghost use Rattle.wasi_host.specs.Entry.{stream_kind};
+ghost use Rattle.wasi_host.specs.Contexts.{same_context};
 ghost use Rattle.wasi_host.specs.Deeds.{stands_alone, goes_under, may_change, same_standard, is_shared};
 
 use wasi_cli::{StdoutHandle, TerminalInput, TerminalOutput};
@@ -49,8 +50,10 @@ pub enum OwnEntry {
 pub enum Entry {
     /// On the shared input.
     Shared(SharedEntry),
-    /// On the stream that this standard stream of the guest is.
+    /// On the stream that this standard stream of a context is. It stays on that, whichever context
+    /// calls it.
     Stream {
+        context: Option<u32>,
         stream: Standard,
         entry: StreamEntry,
     },
@@ -92,7 +95,7 @@ impl Entry {
     {
         match self {
             Entry::Shared(SharedEntry::Pollable(_)) => false,
-            Entry::Stream { stream: _, entry } => !matches!(entry, StreamEntry::Pollable),
+            Entry::Stream { entry, .. } => !matches!(entry, StreamEntry::Pollable),
             Entry::Shared(_) | Entry::Own(_) => true,
         }
     }
@@ -106,13 +109,13 @@ impl Entry {
                 matches!(parent, Entry::Shared(SharedEntry::Reader))
             }
             Entry::Stream {
-                stream: _,
                 entry: StreamEntry::Pollable,
+                ..
             } => matches!(
                 parent,
                 Entry::Stream {
-                    stream: _,
-                    entry: StreamEntry::Plain
+                    entry: StreamEntry::Plain,
+                    ..
                 }
             ),
             Entry::Shared(_) | Entry::Stream { .. } | Entry::Own(_) => false,
@@ -130,14 +133,16 @@ impl Entry {
             }
             (
                 Entry::Stream {
+                    context,
                     stream: to,
                     entry: StreamEntry::Polled(_),
                 },
                 Entry::Stream {
+                    context: other,
                     stream: on,
                     entry: StreamEntry::Polled(_),
                 },
-            ) => same_standard(*to, *on),
+            ) => same_context(*context, *other) && same_standard(*to, *on),
             (Entry::Own(OwnEntry::Deadline(_)), Entry::Own(OwnEntry::Deadline(_))) => true,
             _ => false,
         }
@@ -161,12 +166,26 @@ impl Kinded for Entry {
             Entry::Shared(SharedEntry::Reader) => Entry::READER,
             Entry::Shared(SharedEntry::Polled(_)) => Entry::POLLED,
             Entry::Shared(SharedEntry::Pollable(_)) => Entry::POLLABLE,
-            Entry::Stream { stream, entry } => stream_kind(*stream, *entry),
+            Entry::Stream {
+                context: _,
+                stream,
+                entry,
+            } => stream_kind(*stream, *entry),
             Entry::Own(OwnEntry::Deadline(_)) => Entry::DEADLINE,
             Entry::Own(OwnEntry::Wait(_)) => Entry::WAIT,
             Entry::Own(OwnEntry::TerminalInput(_)) => Entry::TERMINAL_INPUT,
             Entry::Own(OwnEntry::TerminalOutput(_)) => Entry::TERMINAL_OUTPUT,
         }
+    }
+}
+
+fn same_context(one: Option<u32>, other: Option<u32>) -> bool
+    ensures { result ≡ same_context one other }
+{
+    match (one, other) {
+        (None, None) => true,
+        (Some(id), Some(other)) => id == other,
+        _ => false,
     }
 }
 

@@ -18,9 +18,10 @@ pub fn transcripts_fix_runs()
     lines_fix_replies();
 }
 
-/// A law, for every call and whatever the rules of calls are: a call leaves the other guests, its
-/// own guest's settings, each stream but the one that it is on, and the shared input unless it is
-/// on that, as they were. What it is on the entry at its number says.
+/// A law, for every call and whatever the rules of calls are: a call leaves the other guests, the
+/// settings of all contexts of its own guest and the random sources of those that it does not go
+/// through, each stream but the one that it is on, and the shared input unless it is on that, as
+/// they were. What it is on the entry at its number says.
 pub fn calls_stay_in_reach()
     ensures { CallsStayInReach }
 {}

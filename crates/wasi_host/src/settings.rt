@@ -1,7 +1,7 @@
 use wasi_cli::{ArgList, CwdText, EnvList};
 use wasi_script::{Input, Output};
 
-/// What configuration lines say of a guest, which no call changes.
+/// What configuration lines say of a context of a guest, which no call changes.
 #[derive(Drop)]
 pub struct Settings {
     pub input: Input,

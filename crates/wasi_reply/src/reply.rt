@@ -1,8 +1,8 @@
 ghost use Rattle.std.specs.Prelude.{◌≡◌};
 ghost use Rattle.wasi_reply.specs.Reply.{told_ends, ends};
 
-use crate::{Piece, Text, TextPairs, Texts};
-use wasi_base::{IoKind, TrapText};
+use crate::{Piece, TextPairs, Texts};
+use wasi_base::{IoKind, Text, TrapText};
 
 /// What a call tells its guest where it makes no entry, and a line of a script that is done.
 #[derive(Drop)]

@@ -1,8 +1,8 @@
-use crate::{Piece, Reply, Text, TextPairs, Texts, Told, Worked, push_line, push_output};
+use crate::{Piece, Reply, TextPairs, Texts, Told, Worked, push_line, push_output};
 use bytes::Bytes;
 use std::alloc::Global;
 use std::test::Fail;
-use wasi_base::{IoKind, OutOfMemory, TrapText};
+use wasi_base::{IoKind, OutOfMemory, Text, TrapText};
 
 fn text_of(alloc: Global, replies: &[Reply]) -> Result<Vec<u8>, OutOfMemory> {
     let mut text = Vec::new(alloc);

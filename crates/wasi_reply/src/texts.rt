@@ -3,34 +3,6 @@ ghost use Rattle.wasi_reply.specs.Texts.{texts, text_pairs};
 
 use std::marker::Model;
 
-/// A text that a reply shows. Contracts see its bytes.
-#[derive(Drop)]
-pub struct Text {
-    kept: String,
-}
-
-impl Model for Text {
-    ghost use Rattle.std.specs.Prelude.{ℕ, List, string_bytes};
-
-    ghost Value = { List ℕ };
-
-    ghost view = { λ text. string_bytes text.kept };
-}
-
-impl Text {
-    pub fn new(text: String) -> Text
-        ensures { result ≡ string_bytes text }
-    {
-        Text { kept: text }
-    }
-
-    pub fn as_str(&self) -> &str
-        ensures { result.now ≡ self.now }
-    {
-        self.kept.as_str()
-    }
-}
-
 /// Texts that a reply shows, in order. Contracts see a list of their bytes.
 #[derive(Drop)]
 pub struct Texts {

@@ -1,9 +1,10 @@
 -- Which scripts are valid, and the steps that they stand for.
-use Rattle.std.specs.Prelude.{◌≡◌, ℕ, ◌+◌, Bool, true, false, cond, not, ◌&&◌, nat_eq, nat_le, nat_lt, List, [], ◌∷◌, ◌++◌, length, Option, Some, None, codes}
+use Rattle.std.specs.Prelude.{◌≡◌, ℕ, ◌+◌, Bool, true, false, cond, not, ◌&&◌, nat_eq, nat_le, nat_lt, List, [], ◌∷◌, ◌++◌, length, Option, Some, None, unwrap_or, codes}
 use Rattle.std.specs.List.{list_any, slice_split}
 use Rattle.std.specs.Option.{option_map}
 use Rattle.std.specs.Str.{bytes_eq}
 pub use Rattle.wasi_words.specs.Fields.{Form, meaning_by, lines_of}
+use Rattle.wasi_script.specs.Contexts.{named_of, context_of}
 use Rattle.wasi_script.specs.Fields.{words_of, guest_of, number_of, u128_of, capacity_of, room_of, budget_of, exit_code_of, is_at_end, with_first, with_last, two_fields}
 use Rattle.wasi_script.specs.Name.{name_of}
 use Rattle.wasi_script.specs.Times.{time_of}
@@ -11,6 +12,7 @@ use Rattle.wasi_script.specs.Bytes.{byte_string_of, declared_bytes_of, text_of}
 use Rattle.wasi_script.specs.Plans.{read_plan_of, write_plan_of}
 use Rattle.wasi_base.specs.declared.source.Plan.{Plan}
 use Rattle.wasi_base.specs.declared.sink.SinkPlan.{SinkPlan}
+use Rattle.wasi_script.specs.declared.lines.Context.{Context}
 use Rattle.wasi_script.specs.declared.lines.Line.{Line}
 use Rattle.wasi_script.specs.declared.lines.Line.TheVariants as line
 use Rattle.wasi_script.specs.declared.lines.InputDeclaration.{InputDeclaration}
@@ -195,23 +197,29 @@ buffered_of = with_first name_of (λ name. with_first room_of (λ room. with_fir
 abbrev pub guest_line_of : List (List ℕ) → Option Line
 guest_line_of = with_first guest_of (λ guest. with_last input_of (line.Guest guest))
 
--- a guest, and a setting of it
+abbrev pub context_line_of : List (List ℕ) → Option Line
+context_line_of = with_first named_of (λ at. with_last input_of (line.Context at.0 at.1))
+
+abbrev pub capacity_line_of : List (List ℕ) → Option Line
+capacity_line_of = with_first guest_of (λ guest. with_last capacity_of (line.Capacity guest))
+
+-- a context, and a setting of it
 abbrev pub setting_of : {A : Type 0} → (List ℕ → Option A) → (A → Setting) → List (List ℕ) → Option Line
-setting_of field it fields = option_map (λ both. line.Configure both.0 (it both.1)) (two_fields guest_of field fields)
+setting_of field it fields = option_map (λ both. line.Configure both.0 (it both.1)) (two_fields context_of field fields)
 
--- a guest, and a variable of its environment
+-- a variable of the environment
 abbrev pub env_of : List (List ℕ) → Option Line
-env_of = with_first guest_of (λ guest. with_first text_of (λ key. with_last text_of (λ value. line.Configure guest (setting.Env key value))))
+env_of = with_first context_of (λ context. with_first text_of (λ key. with_last text_of (λ value. line.Configure context (setting.Env key value))))
 
--- a random source of a guest, and what it is set to
+-- a random source of a context, and what it is set to
 abbrev pub source_of_word : List ℕ → Option RandomSource
 source_of_word word = cond (bytes_eq word (codes "secure")) (Some source.Secure) (cond (bytes_eq word (codes "insecure")) (Some source.Insecure) None)
 
 abbrev pub source_set : {A : Type 0} → (List ℕ → Option A) → (RandomSource → A → Setting) → List (List ℕ) → Option Line
-source_set field it = with_first guest_of (λ guest. with_first source_of_word (λ from. with_last field (λ value. line.Configure guest (it from value))))
+source_set field it = with_first context_of (λ context. with_first source_of_word (λ from. with_last field (λ value. line.Configure context (it from value))))
 
 abbrev pub call_line_of : List (List ℕ) → Option Line
-call_line_of = with_first guest_of (λ guest fields. option_map (line.Call guest) (call_of fields))
+call_line_of = with_first context_of (λ context fields. option_map (line.Call context) (call_of fields))
 
 -- `in` or `out`, and a name
 abbrev pub stream_tasks : List (Form StreamTask)
@@ -235,7 +243,7 @@ clock_settings =
 abbrev pub clock_of : List (List ℕ) → Option Line
 clock_of fields = option_map line.Clock (meaning_by clock_settings fields)
 
--- the steps that declare streams, those that say more of a guest, and the others
+-- the steps that declare streams, those that say more of a context, and the others
 abbrev pub stream_lines : List (Form Line)
 stream_lines =
     (codes "pipe", pipe_of)
@@ -250,6 +258,8 @@ stream_lines =
 abbrev pub other_lines : List (Form Line)
 other_lines =
     (codes "guest", guest_line_of)
+    ∷ (codes "context", context_line_of)
+    ∷ (codes "capacity", capacity_line_of)
     ∷ (codes "capture", without_fields (line.Worker turn.Capture))
     ∷ (codes "deliver", without_fields (line.Worker turn.Deliver))
     ∷ (codes "turn", turn_of)
@@ -260,7 +270,6 @@ abbrev pub setting_lines : List (Form Line)
 setting_lines =
     (codes "stdout", setting_of output_of setting.Stdout)
     ∷ (codes "stderr", setting_of output_of setting.Stderr)
-    ∷ (codes "capacity", setting_of capacity_of setting.Capacity)
     ∷ (codes "env", env_of)
     ∷ (codes "arg", setting_of text_of setting.Arg)
     ∷ (codes "cwd", setting_of text_of setting.Cwd)
@@ -282,11 +291,12 @@ abbrev pub reading_of : List ℕ → Reading
 reading_of [] = Note
 reading_of (byte ∷ bytes) = cond (nat_eq byte 35) Note (step_or_invalid (line_of (words_of (byte ∷ bytes))))
 
--- What the lines so far declared: the guests, and which of them were called; the streams' names in order, at which of
+-- What the lines so far declared: the guests, which of them were called, and their named contexts; the streams' names in order, at which of
 -- them a task reads ahead or writes behind, and which are standard outputs of the host's process.
 pub record Names : Type 0 where
   pub is_guest : ℕ → Bool
   pub was_called : ℕ → Bool
+  pub is_context : ℕ → ℕ → Bool
   pub inputs : List (List ℕ)
   pub outputs : List (List ℕ)
   pub reads_ahead : List ℕ → Bool
@@ -297,6 +307,7 @@ abbrev pub no_names : Names
 no_names = record {
   is_guest = λ number. false;
   was_called = λ number. false;
+  is_context = λ guest id. false;
   inputs = [];
   outputs = [];
   reads_ahead = λ name. false;
@@ -326,7 +337,6 @@ output_stands names other = true
 abbrev pub setting_stands : Names → Setting → Bool
 setting_stands names (setting.Stdout it) = output_stands names it
 setting_stands names (setting.Stderr it) = output_stands names it
-setting_stands names (setting.Capacity capacity) = nat_le 1 capacity && nat_le capacity 65536
 setting_stands names (setting.Random from bytes) = nat_le 1 (length bytes)
 setting_stands names other = true
 
@@ -344,13 +354,19 @@ turn_stands names (task.Writer name) = names.writes_behind name
 abbrev pub may_set_up : Names → ℕ → Bool
 may_set_up names guest = names.is_guest guest && not (names.was_called guest)
 
+-- a guest's main context is there with the guest, a named one where it is declared
+abbrev pub context_stands : Names → Context → Bool
+context_stands names context = unwrap_or (option_map (names.is_context context.guest) context.named) true
+
 -- a step may stand after these lines
 abbrev pub may_stand : Names → Line → Bool
 may_stand names (line.Input name it) = may_declare names name
 may_stand names (line.Output name it) = may_declare names name && budget_stands it
 may_stand names (line.Guest guest it) = nat_lt guest 64 && (not (names.is_guest guest) && input_stands names it)
-may_stand names (line.Configure guest it) = may_set_up names guest && setting_stands names it
-may_stand names (line.Call guest it) = names.is_guest guest
+may_stand names (line.Context guest id it) = may_set_up names guest && (nat_lt id 16 && (not (names.is_context guest id) && input_stands names it))
+may_stand names (line.Capacity guest capacity) = may_set_up names guest && (nat_le 1 capacity && nat_le capacity 65536)
+may_stand names (line.Configure context it) = may_set_up names context.guest && (context_stands names context && setting_stands names it)
+may_stand names (line.Call context it) = names.is_guest context.guest && context_stands names context
 may_stand names (line.Worker it) = true
 may_stand names (line.Turn it) = turn_stands names it
 may_stand names (line.Clock it) = true
@@ -376,6 +392,9 @@ known guest it test number = cond (nat_eq number guest) it (test number)
 abbrev pub also : ℕ → (ℕ → Bool) → ℕ → Bool
 also guest = known guest true
 
+abbrev pub also_context : ℕ → ℕ → (ℕ → ℕ → Bool) → ℕ → ℕ → Bool
+also_context guest id test number other = cond (nat_eq number guest && nat_eq other id) true (test number other)
+
 abbrev pub named : List ℕ → Bool → (List ℕ → Bool) → List ℕ → Bool
 named name it test other = cond (bytes_eq other name) it (test other)
 
@@ -383,8 +402,10 @@ abbrev pub names_after : Names → Line → Names
 names_after names (line.Input name it) = record names { inputs = names.inputs ++ name ∷ []; reads_ahead = named name (is_read_ahead it) names.reads_ahead }
 names_after names (line.Output name it) = record names { outputs = names.outputs ++ name ∷ []; writes_behind = named name (is_written_behind it) names.writes_behind; has_stdio = named name (is_stdio it) names.has_stdio }
 names_after names (line.Guest guest it) = record names { is_guest = also guest names.is_guest }
-names_after names (line.Configure guest it) = names
-names_after names (line.Call guest it) = record names { was_called = also guest names.was_called }
+names_after names (line.Context guest id it) = record names { is_context = also_context guest id names.is_context }
+names_after names (line.Capacity guest capacity) = names
+names_after names (line.Configure context it) = names
+names_after names (line.Call context it) = record names { was_called = also context.guest names.was_called }
 names_after names (line.Worker it) = names
 names_after names (line.Turn it) = names
 names_after names (line.Clock it) = names

@@ -1,4 +1,5 @@
 pub mod Bytes
+pub mod Contexts
 pub mod Declarations
 pub mod Fields
 pub mod Grammar

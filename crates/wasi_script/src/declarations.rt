@@ -1,9 +1,11 @@
 ghost use Rattle.std.specs.Prelude.{◌≡◌, ◌+◌, ◌<◌, length, slice_index_or, true, false, OnOk, OnErr};
-ghost use Rattle.wasi_script.specs.Grammar.{Names, may_stand, may_declare, budget_stands, may_set_up, input_stands, output_stands, setting_stands, turn_stands, names_after, no_names, is_among};
-ghost use Rattle.wasi_script.specs.Declarations.{input_flags, output_flags};
+ghost use Rattle.wasi_script.specs.Grammar.{Names, may_stand, may_declare, budget_stands, may_set_up, context_stands, input_stands, output_stands, setting_stands, turn_stands, names_after, no_names, is_among};
+ghost use Rattle.wasi_script.specs.Declarations.{input_flags, output_flags, context_at};
 ghost use Rattle.wasi_script.specs.declared.lines.Line.TheVariants as line;
 
-use crate::lines::{Input, InputDeclaration, Line, Output, OutputDeclaration, Setting, StreamTask};
+use crate::lines::{
+    Context, Input, InputDeclaration, Line, Output, OutputDeclaration, Setting, StreamTask,
+};
 use crate::name::Name;
 use crate::name_set::{NameSet, StreamFlags};
 use std::alloc::Global;
@@ -35,6 +37,10 @@ pub trait Declared {
     fn was_called(&self, guest: u32) -> bool
         ensures { result ≡ (names self.now).was_called guest };
 
+    /// Whether the guest has a named context of this number.
+    fn has_context(&self, guest: u32, id: u32) -> bool
+        ensures { result ≡ (names self.now).is_context guest id };
+
     /// Whether there is an input of this name that a task reads ahead.
     fn reads_ahead(&self, name: &[u8]) -> bool
         ensures { result ≡ (names self.now).reads_ahead name.now };
@@ -57,10 +63,20 @@ pub trait Declared {
             Line::Guest { guest, input } => {
                 *guest < 64 && (!self.has_guest(*guest) && self.allow_input(input))
             }
-            Line::Configure { guest, setting } => {
-                self.allow_set_up(*guest) && self.allow_setting(setting)
+            Line::Context { guest, id, input } => {
+                self.allow_set_up(*guest)
+                    && (*id < 16 && (!self.has_context(*guest, *id) && self.allow_input(input)))
             }
-            Line::Call { guest, call: _ } => self.has_guest(*guest),
+            Line::Capacity { guest, capacity } => {
+                self.allow_set_up(*guest) && (1 <= *capacity && *capacity <= 65536)
+            }
+            Line::Configure { context, setting } => {
+                self.allow_set_up(context.guest)
+                    && (self.allow_context(context) && self.allow_setting(setting))
+            }
+            Line::Call { context, call: _ } => {
+                self.has_guest(context.guest) && self.allow_context(context)
+            }
             Line::Worker(_) | Line::Clock(_) => true,
             Line::Turn(task) => self.allow_turn(task),
         }
@@ -81,13 +97,22 @@ pub trait Declared {
         self.has_guest(guest) && !self.was_called(guest)
     }
 
-    /// Whether they may say this of it.
+    /// Whether a declared guest has this context.
+    final fn allow_context(&self, context: &Context) -> bool
+        ensures { result ≡ context_stands (names self.now) context.now }
+    {
+        match context.named {
+            None => true,
+            Some(id) => self.has_context(context.guest, id),
+        }
+    }
+
+    /// Whether they may say this of one of its contexts.
     final fn allow_setting(&self, setting: &Setting) -> bool
         ensures { result ≡ setting_stands (names self.now) setting.now }
     {
         match setting {
             Setting::Stdout(output) | Setting::Stderr(output) => self.allow_output(output),
-            Setting::Capacity(capacity) => 1 <= *capacity && *capacity <= 65536,
             Setting::Random { source: _, bytes } => 1 <= bytes.len(),
             Setting::Seeded { .. } | Setting::InsecureSeed(_) | Setting::MaxRandom(_) => true,
             Setting::Env { .. } | Setting::Arg(_) | Setting::Cwd(_) => true,
@@ -124,6 +149,13 @@ pub trait Declared {
             StreamTask::Writer(name) => self.writes_behind(name.as_bytes()),
         }
     }
+}
+
+// a named context's flag
+fn has_context_flag(flags: &[bool; 1024], guest: u32, id: u32) -> bool
+    ensures { result ≡ context_at flags.now guest id }
+{
+    guest < 64 && (id < 16 && flags[guest as usize * 16 + id as usize])
 }
 
 // a buffered output's budget is one byte at least
@@ -163,11 +195,14 @@ fn has_flag(flags: &[bool; 64], guest: u32) -> bool
     guest < 64 && flags[guest as usize]
 }
 
-/// What the lines so far declared: guests, inputs and outputs, and which of the guests have called.
+/// What the lines so far declared: guests and their named contexts, inputs and outputs, and which of
+/// the guests have called.
 #[derive(Drop)]
 pub struct Declarations {
     declared: [bool; 64],
     called: [bool; 64],
+    // 16 for each guest
+    contexts: [bool; 1024],
     inputs: NameSet,
     outputs: NameSet,
 }
@@ -197,6 +232,10 @@ impl Declared for Declarations {
         has_flag(&self.called, guest)
     }
 
+    fn has_context(&self, guest: u32, id: u32) -> bool {
+        has_context_flag(&self.contexts, guest, id)
+    }
+
     fn reads_ahead(&self, name: &[u8]) -> bool {
         self.inputs.has_task(name)
     }
@@ -219,6 +258,7 @@ impl Declarations {
         Declarations {
             declared: [false; 64],
             called: [false; 64],
+            contexts: [false; 1024],
             inputs: NameSet::none(alloc),
             outputs: NameSet::none(alloc),
         }
@@ -239,8 +279,15 @@ impl Declarations {
                     .add(alloc, name.as_bytes(), output_flags(output))?;
             }
             Line::Guest { guest, input: _ } => self.declared[*guest as usize] = true,
-            Line::Call { guest, call: _ } => self.called[*guest as usize] = true,
-            Line::Configure { .. } | Line::Worker(_) | Line::Turn(_) | Line::Clock(_) => {}
+            Line::Context { guest, id, .. } => {
+                self.contexts[*guest as usize * 16 + *id as usize] = true;
+            }
+            Line::Call { context, call: _ } => self.called[context.guest as usize] = true,
+            Line::Capacity { .. }
+            | Line::Configure { .. }
+            | Line::Worker(_)
+            | Line::Turn(_)
+            | Line::Clock(_) => {}
         }
         Ok(())
     }

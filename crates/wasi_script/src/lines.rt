@@ -1,7 +1,7 @@
 use crate::bytes::ByteString;
 use crate::name::Name;
 use crate::plan::{ReadPlan, WritePlan};
-use crate::text::Text;
+use wasi_base::Text;
 use wasi_clocks::WallTime;
 
 /// Where a guest's standard input comes from.
@@ -74,38 +74,36 @@ pub enum OutputDeclaration {
     },
 }
 
-/// What a line says of a guest before its first call.
+/// What a line says of a context before its guest's first call.
 #[derive(Drop)]
 pub enum Setting {
-    /// `stdout G OUT`: where its standard output goes.
+    /// `stdout CTX OUT`: where its standard output goes.
     Stdout(Output),
-    /// `stderr G OUT`: where its standard error goes.
+    /// `stderr CTX OUT`: where its standard error goes.
     Stderr(Output),
-    /// `capacity G NUM`: the most entries that its table holds, from 1 to 65536.
-    Capacity(u32),
-    /// `random G secure BYTES`, `random G insecure BYTES`: a source gives these bytes, one at least,
+    /// `random CTX secure BYTES`, `random CTX insecure BYTES`: a source gives these bytes, one at least,
     /// again and again.
     Random {
         source: RandomSource,
         bytes: ByteString,
     },
-    /// `seeded G secure NUM`, `seeded G insecure NUM`: a source is the generator of this seed.
+    /// `seeded CTX secure NUM`, `seeded CTX insecure NUM`: a source is the generator of this seed.
     Seeded {
         source: RandomSource,
         seed: u64,
     },
-    /// `seed G U128`: the seed for its insecure uses.
+    /// `seed CTX U128`: the seed for its insecure uses.
     InsecureSeed(u128),
-    /// `maxrandom G NUM`: the most random bytes that it may ask for at a time.
+    /// `maxrandom CTX NUM`: the most random bytes that it may ask for at a time.
     MaxRandom(u64),
-    /// `env G TEXT TEXT`: one more variable of its environment, also where its key stands already.
+    /// `env CTX TEXT TEXT`: one more variable of its environment, also where its key stands already.
     Env {
         key: Text,
         value: Text,
     },
-    /// `arg G TEXT`: one more argument.
+    /// `arg CTX TEXT`: one more argument.
     Arg(Text),
-    /// `cwd G TEXT`: the directory in which it begins.
+    /// `cwd CTX TEXT`: the directory in which it begins.
     Cwd(Text),
 }
 
@@ -273,6 +271,15 @@ pub enum ClockSetting {
     WallResolution(WallTime),
 }
 
+/// One of a guest's contexts, which a script writes `G` or `G.ID`.
+#[derive(Clone, Copy, Debug, PartialEq, Eq, Drop)]
+pub struct Context {
+    /// The guest's number, from 0 to 63.
+    pub guest: u32,
+    /// The number of a named context, from 0 to 15. Without one it is the guest's main context.
+    pub named: Option<u32>,
+}
+
 /// A step of a session, by its kind.
 #[derive(Drop)]
 pub enum Line {
@@ -286,19 +293,30 @@ pub enum Line {
         name: Name,
         output: OutputDeclaration,
     },
-    /// `guest G IN`: there is a guest of this number, from 0 to 63.
+    /// `guest G IN`: there is a guest of this number, from 0 to 63, with its main context.
     Guest {
         guest: u32,
         input: Input,
     },
-    /// A line says more of a guest.
-    Configure {
+    /// `context G.ID IN`: the guest has a named context of this number, from 0 to 15.
+    Context {
         guest: u32,
+        id: u32,
+        input: Input,
+    },
+    /// `capacity G NUM`: the most entries that the guest's table holds, from 1 to 65536.
+    Capacity {
+        guest: u32,
+        capacity: u32,
+    },
+    /// A line says more of a context.
+    Configure {
+        context: Context,
         setting: Setting,
     },
-    /// `call G ..`: the guest makes a call.
+    /// `call CTX ..`: the context's guest makes a call.
     Call {
-        guest: u32,
+        context: Context,
         call: Call,
     },
     /// The worker has its turn.

@@ -1,3 +1,4 @@
+pub mod ContextFacts
 pub mod CountFacts
 pub mod GuestFacts
 pub mod LiveFacts

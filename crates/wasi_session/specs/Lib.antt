@@ -1,6 +1,7 @@
 pub mod Fitting
 pub mod Generated
 pub mod Live
+pub mod Contexts
 pub mod Makes
 pub mod Program
 pub mod Reading

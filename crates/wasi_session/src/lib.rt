@@ -3,6 +3,7 @@
 
 mod answers;
 mod clocks;
+mod contexts;
 mod environment;
 mod generated;
 mod guest;

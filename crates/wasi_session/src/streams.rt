@@ -139,24 +139,25 @@ impl Streams {
         Ok(())
     }
 
-    /// A call on the input that a guest reads: what it asks to be done.
+    /// A call on the input that a context reads: what it asks to be done.
     pub fn call(
         &mut self,
         alloc: Global,
         from: &Input,
         call: &EntryCall,
+        context: Option<u32>,
         at: Owner,
         entry: StreamEntry,
     ) -> Result<Deed, OutOfMemory>
-        ensures deed { IfOk result (λ deed. deed ≡ (input_doing call.now at entry from.now self.old).deed) }
-        ensures left { OnOk result (self.new ≡ (input_doing call.now at entry from.now self.old).left) }
+        ensures deed { IfOk result (λ deed. deed ≡ (input_doing call.now context at entry from.now self.old).deed) }
+        ensures left { OnOk result (self.new ≡ (input_doing call.now context at entry from.now self.old).left) }
         ensures made { IfOk result (λ deed. IsMake deed → self.new ≡ self.old) }
         ensures err { OnErr result (self.new ≡ self.old) }
     {
         match from {
-            Input::Named(name) => self.call_named(alloc, name.as_bytes(), call, at, entry),
+            Input::Named(name) => self.call_named(alloc, name.as_bytes(), call, context, at, entry),
             Input::Shared | Input::Terminal | Input::Empty | Input::Closed => {
-                called_closed(alloc, call, at, entry)
+                called_closed(alloc, call, context, at, entry)
             }
         }
     }
@@ -167,43 +168,45 @@ impl Streams {
         alloc: Global,
         name: &[u8],
         call: &EntryCall,
+        context: Option<u32>,
         at: Owner,
         entry: StreamEntry,
     ) -> Result<Deed, OutOfMemory>
-        ensures deed { IfOk result (λ deed. deed ≡ (called call.now at entry (taken_out in_stream.Closed name.now self.old.inputs)).deed) }
-        ensures left { OnOk result (self.new ≡ record self.old { inputs = put_back name.now (called call.now at entry (taken_out in_stream.Closed name.now self.old.inputs)).left self.old.inputs }) }
+        ensures deed { IfOk result (λ deed. deed ≡ (called call.now context at entry (taken_out in_stream.Closed name.now self.old.inputs)).deed) }
+        ensures left { OnOk result (self.new ≡ record self.old { inputs = put_back name.now (called call.now context at entry (taken_out in_stream.Closed name.now self.old.inputs)).left self.old.inputs }) }
         ensures made { IfOk result (λ deed. IsMake deed → self.new ≡ self.old) }
         ensures err { OnErr result (self.new ≡ self.old) }
     {
         match self.inputs.get_mut(name) {
-            Some(stream) => called(alloc, stream, call, at, entry),
-            None => called_closed(alloc, call, at, entry),
+            Some(stream) => called(alloc, stream, call, context, at, entry),
+            None => called_closed(alloc, call, context, at, entry),
         }
     }
 
-    /// A call on an output of a guest: what it asks to be done.
+    /// A call on an output of a context: what it asks to be done.
     pub fn send(
         &mut self,
         alloc: Global,
         to: &Output,
         call: &EntryCall,
+        context: Option<u32>,
         which: Standard,
         at: Owner,
         entry: StreamEntry,
     ) -> Result<Deed, OutOfMemory>
-        ensures deed { IfOk result (λ deed. deed ≡ (output_doing call.now which at entry to.now self.old).deed) }
-        ensures left { OnOk result (self.new ≡ (output_doing call.now which at entry to.now self.old).left) }
+        ensures deed { IfOk result (λ deed. deed ≡ (output_doing call.now context which at entry to.now self.old).deed) }
+        ensures left { OnOk result (self.new ≡ (output_doing call.now context which at entry to.now self.old).left) }
         ensures made { IfOk result (λ deed. IsMake deed → self.new ≡ self.old) }
         ensures err { OnErr result (self.new ≡ self.old) }
     {
         match to {
             Output::Named(name) | Output::Terminal(name) => {
-                self.send_named(alloc, name.as_bytes(), call, which, at, entry)
+                self.send_named(alloc, name.as_bytes(), call, context, which, at, entry)
             }
-            Output::Closed => sent_closed(alloc, call, which, at, entry),
+            Output::Closed => sent_closed(alloc, call, context, which, at, entry),
             Output::Empty | Output::Sink => {
                 let mut sink = OutStream::Sink;
-                sent(alloc, &mut sink, call, which, at, entry)
+                sent(alloc, &mut sink, call, context, which, at, entry)
             }
         }
     }
@@ -214,22 +217,23 @@ impl Streams {
         alloc: Global,
         name: &[u8],
         call: &EntryCall,
+        context: Option<u32>,
         which: Standard,
         at: Owner,
         entry: StreamEntry,
     ) -> Result<Deed, OutOfMemory>
-        ensures deed { IfOk result (λ deed. deed ≡ (sent call.now which at entry (taken_out out_stream.Closed name.now self.old.outputs)).deed) }
-        ensures left { OnOk result (self.new ≡ record self.old { outputs = put_back name.now (sent call.now which at entry (taken_out out_stream.Closed name.now self.old.outputs)).left self.old.outputs }) }
+        ensures deed { IfOk result (λ deed. deed ≡ (sent call.now context which at entry (taken_out out_stream.Closed name.now self.old.outputs)).deed) }
+        ensures left { OnOk result (self.new ≡ record self.old { outputs = put_back name.now (sent call.now context which at entry (taken_out out_stream.Closed name.now self.old.outputs)).left self.old.outputs }) }
         ensures made { IfOk result (λ deed. IsMake deed → self.new ≡ self.old) }
         ensures err { OnErr result (self.new ≡ self.old) }
     {
         match self.outputs.get_mut(name) {
-            Some(stream) => sent(alloc, stream, call, which, at, entry),
-            None => sent_closed(alloc, call, which, at, entry),
+            Some(stream) => sent(alloc, stream, call, context, which, at, entry),
+            None => sent_closed(alloc, call, context, which, at, entry),
         }
     }
 
-    /// Who leaves has no turn on an input of a guest any more, and waits for none.
+    /// Who leaves has no turn on an input of a context any more, and waits for none.
     pub fn leave_input(&mut self, from: &Input, who: Leaver)
         ensures { self.new ≡ leave_input who from.now self.old }
     {

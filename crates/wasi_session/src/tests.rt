@@ -1,6 +1,7 @@
 ghost use Rattle.std.specs.Prelude.{None};
 
 mod clocks;
+mod contexts;
 mod environment;
 mod generated;
 mod random;

@@ -35,14 +35,14 @@ use Rattle.wasi_host.specs.Run.{dropped_by, live_after}
 -- nothing stands under a number that is not live
 under_none : (it : Entry) → goes_under it None ≡ false
 under_none (entry.Shared (shared.Pollable wait)) = refl
-under_none (entry.Stream to stream.Pollable) = refl
+under_none (entry.Stream of to stream.Pollable) = refl
 under_none other = refl
 
 -- an entry in place of one of its sort stands where that one stood, and under it stands what stood under that one
 again_alone : (old new : Entry) → may_change (Some old) new ≡ true → stands_alone new ≡ stands_alone old
 again_alone (entry.Shared (shared.Polled old)) (entry.Shared (shared.Polled new)) e = refl
 again_alone (entry.Shared (shared.Pollable old)) (entry.Shared (shared.Pollable new)) e = refl
-again_alone (entry.Stream to (stream.Polled old)) (entry.Stream on (stream.Polled new)) e = refl
+again_alone (entry.Stream of to (stream.Polled old)) (entry.Stream of' on (stream.Polled new)) e = refl
 again_alone (entry.Own (kept.Deadline old)) (entry.Own (kept.Deadline new)) e = refl
 again_alone old new e = absurd (true≢false (sym e))
 
@@ -51,35 +51,35 @@ again_under (entry.Shared (shared.Polled old)) (entry.Shared (shared.Polled new)
 again_under (entry.Shared (shared.Pollable old)) (entry.Shared (shared.Pollable new)) None e = refl
 again_under (entry.Shared (shared.Pollable old)) (entry.Shared (shared.Pollable new)) (Some (entry.Shared shared.Reader)) e = refl
 again_under (entry.Shared (shared.Pollable old)) (entry.Shared (shared.Pollable new)) (Some other) e = refl
-again_under (entry.Stream to (stream.Polled old)) (entry.Stream on (stream.Polled new)) o e = refl
+again_under (entry.Stream of to (stream.Polled old)) (entry.Stream of' on (stream.Polled new)) o e = refl
 again_under (entry.Own (kept.Deadline old)) (entry.Own (kept.Deadline new)) o e = refl
 again_under old new o e = absurd (true≢false (sym e))
 
 pub none_polled : (child : Entry) (wait : Option ℕ) → goes_under child (Some (entry.Shared (shared.Polled wait))) ≡ false
 none_polled (entry.Shared (shared.Pollable w)) wait = refl
-none_polled (entry.Stream to stream.Pollable) wait = refl
+none_polled (entry.Stream of to stream.Pollable) wait = refl
 none_polled other wait = refl
 
 pub none_pollable : (child : Entry) (wait : Option ℕ) → goes_under child (Some (entry.Shared (shared.Pollable wait))) ≡ false
 none_pollable (entry.Shared (shared.Pollable w)) wait = refl
-none_pollable (entry.Stream to stream.Pollable) wait = refl
+none_pollable (entry.Stream of to stream.Pollable) wait = refl
 none_pollable other wait = refl
 
-none_handle : (child : Entry) (to : Standard) (handle : StdoutHandle) → goes_under child (Some (entry.Stream to (stream.Polled handle))) ≡ false
-none_handle (entry.Shared (shared.Pollable w)) to handle = refl
-none_handle (entry.Stream on stream.Pollable) to handle = refl
-none_handle other to handle = refl
+none_handle : (child : Entry) (of : Option ℕ) (to : Standard) (handle : StdoutHandle) → goes_under child (Some (entry.Stream of to (stream.Polled handle))) ≡ false
+none_handle (entry.Shared (shared.Pollable w)) of to handle = refl
+none_handle (entry.Stream of' on stream.Pollable) of to handle = refl
+none_handle other of to handle = refl
 
 none_deadline : (child : Entry) (it : Deadline) → goes_under child (Some (entry.Own (kept.Deadline it))) ≡ false
 none_deadline (entry.Shared (shared.Pollable w)) it = refl
-none_deadline (entry.Stream to stream.Pollable) it = refl
+none_deadline (entry.Stream of to stream.Pollable) it = refl
 none_deadline other it = refl
 
 -- nothing stands under entries that are changed
 pub changed_alone : (old new child : Entry) → may_change (Some old) new ≡ true → (goes_under child (Some old) ≡ false) × (goes_under child (Some new) ≡ false)
 changed_alone (entry.Shared (shared.Polled old)) (entry.Shared (shared.Polled new)) child e = (none_polled child old, none_polled child new)
 changed_alone (entry.Shared (shared.Pollable old)) (entry.Shared (shared.Pollable new)) child e = (none_pollable child old, none_pollable child new)
-changed_alone (entry.Stream to (stream.Polled old)) (entry.Stream on (stream.Polled new)) child e = (none_handle child to old, none_handle child on new)
+changed_alone (entry.Stream of to (stream.Polled old)) (entry.Stream of' on (stream.Polled new)) child e = (none_handle child of to old, none_handle child of' on new)
 changed_alone (entry.Own (kept.Deadline old)) (entry.Own (kept.Deadline new)) child e = (none_deadline child old, none_deadline child new)
 changed_alone old new child e = absurd (true≢false (sym e))
 

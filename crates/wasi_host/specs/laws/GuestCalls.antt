@@ -33,6 +33,7 @@ use Rattle.wasi_host.specs.declared.stream.InStream.{InStream}
 use Rattle.wasi_host.specs.declared.stream.OutStream.{OutStream}
 use Rattle.wasi_host.specs.declared.deed.Deed.{Deed}
 use Rattle.wasi_host.specs.declared.deed.Deed.TheVariants.{Tell, Make, Change}
+use Rattle.wasi_host.specs.Contexts.{ByContext, at_context, put_context}
 use Rattle.wasi_host.specs.Deeds.{Own, Done, only_told, trapped, entry_at, may_make, may_change, made, with_kept, act, dropped, is_shared, apart}
 use Rattle.wasi_host.specs.Calls.{Doing, doing, opened, opened_terminal, asked, called, sent, awaited, owned as own_deed, shared_entry, stream_entry}
 use Rattle.wasi_host.specs.Clocks.{Clocks}
@@ -52,7 +53,7 @@ apart_none other parent e = refl
 stays_apart : (old new : Entry) → may_change (Some old) new ≡ true → is_shared new ≡ false → is_shared old ≡ false
 stays_apart (entry.Shared (on.Polled a)) (entry.Shared (on.Polled b)) e none = none
 stays_apart (entry.Shared (on.Pollable a)) (entry.Shared (on.Pollable b)) e none = none
-stays_apart (entry.Stream to (stream.Polled a)) (entry.Stream at (stream.Polled b)) e none = refl
+stays_apart (entry.Stream of to (stream.Polled a)) (entry.Stream of' at (stream.Polled b)) e none = refl
 stays_apart (entry.Own (kept.Deadline a)) (entry.Own (kept.Deadline b)) e none = refl
 stays_apart old new e none = absurd (true≢false (sym e))
 
@@ -163,22 +164,22 @@ left_owned true guest own l is = record { own = own_left own l is; fresh = λ e.
 left_owned false guest own l is = record { own = is; fresh = λ e. absurd (true≢false e) }
 
 -- a guest that has other random sources has what it had, and shows what it showed
-owned_again : (b : Bool) (guest : Guest) (sources : Sources) (o : Option Guest) (l : FinSet nat_cmp) → OwnedBy (cond b (Some guest) o) l → OwnedBy (cond b (Some (record guest { sources = sources })) o) l
+owned_again : (b : Bool) (guest : Guest) (sources : ByContext Sources) (o : Option Guest) (l : FinSet nat_cmp) → OwnedBy (cond b (Some guest) o) l → OwnedBy (cond b (Some (record guest { sources = sources })) o) l
 owned_again true guest sources o l is = record { own = is.own; fresh = is.fresh }
 owned_again false guest sources o l is = is
 
-sources_apart : (front : List ℕ) (shared : Shared) (guests : ℕ → Option Guest) (live : ℕ → FinSet nat_cmp) (told : Told) (g : ℕ) (guest : Guest) (sources : Sources) → shown front shared (at_number guests g (Some guest)) live told ≡ shown front shared (at_number guests g (Some (record guest { sources = sources }))) live told
+sources_apart : (front : List ℕ) (shared : Shared) (guests : ℕ → Option Guest) (live : ℕ → FinSet nat_cmp) (told : Told) (g : ℕ) (guest : Guest) (sources : ByContext Sources) → shown front shared (at_number guests g (Some guest)) live told ≡ shown front shared (at_number guests g (Some (record guest { sources = sources }))) live told
 sources_apart front shared guests live told g guest sources = shown_put front shared guests live told g guest ∙ sym (shown_put front shared guests live told g (record guest { sources = sources }))
 
-module _ (input front : List ℕ) (shared : Shared) (guests : ℕ → Option Guest) (live : ℕ → FinSet nat_cmp) (told : Told) (g : ℕ) (guest : Guest) (goes_on : guest.ended ≡ false) (there : guests g ≡ Some guest) (is : IsGuest guest (live g)) (owned : (m : ℕ) → OwnedBy (guests m) (live m)) (sound : IsSound shared) (input_is : input ≡ front ++ (shared.held ++ told.left)) where
+module _ (input front : List ℕ) (shared : Shared) (guests : ℕ → Option Guest) (live : ℕ → FinSet nat_cmp) (told : Told) (g : ℕ) (of : Option ℕ) (guest : Guest) (goes_on : guest.ended ≡ false) (there : guests g ≡ Some guest) (is : IsGuest guest (live g)) (owned : (m : ℕ) → OwnedBy (guests m) (live m)) (sound : IsSound shared) (input_is : input ≡ front ++ (shared.held ++ told.left)) where
   abbrev now : Sharing
   now = shown front shared guests live told
 
   abbrev Goes : Call → Answered → Type 0
-  Goes c done = Next input front shared guests live told (λ s. call_bytes false c input s g done.reply) (λ s s'. EndedRule false c input s g done.reply s') done.shared (at_number guests g (Some done.guest)) told
+  Goes c done = Next input front shared guests live told (λ s. call_bytes false c input s g done.reply) (λ s s'. EndedRule false c input s g of done.reply s') done.shared (at_number guests g (Some done.guest)) told
 
   -- a call whose entry's rule is known: the live numbers follow its reply, and the guest ends where that ends it
-  goes : (c : Call) (done : Called) (handed : Reply → List ℕ) (streams : Streams) → Follows guest.own (live_after c done.reply (live g)) (record { reply = done.reply; own = done.own }) → Does input front shared guests live told g guest done handed (λ answer s'. CallRule c input now g answer s') → handed done.reply ≡ call_bytes false c input now g done.reply → Goes c (settled guest (record { reply = done.reply; own = done.own }) done.left streams)
+  goes : (c : Call) (done : Called) (handed : Reply → List ℕ) (streams : Streams) → Follows guest.own (live_after c done.reply (live g)) (record { reply = done.reply; own = done.own }) → Does input front shared guests live told g guest done handed (λ answer s'. CallRule c input now g of answer s') → handed done.reply ≡ call_bytes false c input now g done.reply → Goes c (settled guest (record { reply = done.reply; own = done.own }) done.left streams)
   goes c done handed streams follows does same =
       let b = ends done.reply in
       let l = live_after c done.reply (live g) in
@@ -194,7 +195,7 @@ module _ (input front : List ℕ) (shared : Shared) (guests : ℕ → Option Gue
       }
 
   -- a call that asks nothing of the shared input
-  other : (c : Call) (done : Done) (streams : Streams) → Follows guest.own (live_after c done.reply (live g)) done → ((m : ℕ) → standing_in done.own m ≡ standing_in guest.own m) → ((s' : Sharing) → s' ≡ now → CallRule c input now g done.reply s') → call_bytes false c input now g done.reply ≡ [] → Goes c (settled guest done shared streams)
+  other : (c : Call) (done : Done) (streams : Streams) → Follows guest.own (live_after c done.reply (live g)) done → ((m : ℕ) → standing_in done.own m ≡ standing_in guest.own m) → ((s' : Sharing) → s' ≡ now → CallRule c input now g of done.reply s') → call_bytes false c input now g done.reply ≡ [] → Goes c (settled guest done shared streams)
   other c done streams follows same rule none =
       goes c (record { reply = done.reply; own = done.own; left = shared }) none_handed streams (record { own_is = follows.own_is; capacity = follows.capacity; goes_on = follows.goes_on })
       (record {
@@ -216,23 +217,23 @@ module _ (input front : List ℕ) (shared : Shared) (guests : ℕ → Option Gue
   standing_there n = ap (λ (standing : ℕ → Option Standing). standing n) (stands_there guests g guest there)
 
   -- ---- a guest opens a standard stream
-  stream_opens : (it : Standard) (how : Access) (streams : Streams) → ((s' : Sharing) → s' ≡ now → (answer : Reply) → CallRule (call.Open it how) input now g answer s') → Goes (call.Open it how) (settled guest (act (Make (entry.Stream it (stream_entry how)) None) guest.own) shared streams)
+  stream_opens : (it : Standard) (how : Access) (streams : Streams) → ((s' : Sharing) → s' ≡ now → (answer : Reply) → CallRule (call.Open it how) input now g of answer s') → Goes (call.Open it how) (settled guest (act (Make (entry.Stream of it (stream_entry how)) None) guest.own) shared streams)
   stream_opens it how streams rule =
-      let deed = Make (entry.Stream it (stream_entry how)) None in
-      other (call.Open it how) (act deed guest.own) streams (follow (call.Open it how) deed (λ live. refl)) (make_still guest.own (live g) is.own (entry.Stream it (stream_entry how)) None refl) (λ s' e. rule s' e (act deed guest.own).reply) refl
+      let deed = Make (entry.Stream of it (stream_entry how)) None in
+      other (call.Open it how) (act deed guest.own) streams (follow (call.Open it how) deed (λ live. refl)) (make_still guest.own (live g) is.own (entry.Stream of it (stream_entry how)) None refl) (λ s' e. rule s' e (act deed guest.own).reply) refl
 
-  shared_opens : (how : Access) (streams : Streams) → now.shares g ≡ true → Goes (call.Open standard.Input how) (settled guest (act (Make (entry.Shared (shared_entry how)) None) guest.own) shared streams)
+  shared_opens : (how : Access) (streams : Streams) → now.shares g of ≡ true → Goes (call.Open standard.Input how) (settled guest (act (Make (entry.Shared (shared_entry how)) None) guest.own) shared streams)
   shared_opens how streams sharing =
       let deed = Make (entry.Shared (shared_entry how)) None in
       goes (call.Open standard.Input how) (called_by guest.own (doing deed shared)) none_handed streams (let after = follow (call.Open standard.Input how) deed (λ live. refl) in record { own_is = after.own_is; capacity = after.capacity; goes_on = after.goes_on })
       (subst (λ b. Does input front shared guests live told g guest (called_by guest.own (doing deed shared)) none_handed (λ answer s'. OpenRule b how now g answer s')) (sym sharing) (open_does input front shared guests live told g guest there is.own sound input_is how)) refl
 
-  opens : (it : Standard) (how : Access) (from_is : Input) (streams : Streams) → guest.settings.input ≡ from_is → Goes (call.Open it how) (settled guest (act (Make (opened from_is it how) None) guest.own) shared streams)
-  opens standard.Input how from.Shared streams e = shared_opens how streams (ap shares_in there ∙ ap run.is_shared e)
-  opens standard.Input how from.Terminal streams e = shared_opens how streams (ap shares_in there ∙ ap run.is_shared e)
-  opens standard.Input how from.Empty streams e = stream_opens standard.Input how streams (λ s' same answer. subst (λ b. OpenRule b how now g answer s') (sym (ap shares_in there ∙ ap run.is_shared e)) same)
-  opens standard.Input how from.Closed streams e = stream_opens standard.Input how streams (λ s' same answer. subst (λ b. OpenRule b how now g answer s') (sym (ap shares_in there ∙ ap run.is_shared e)) same)
-  opens standard.Input how (from.Named name) streams e = stream_opens standard.Input how streams (λ s' same answer. subst (λ b. OpenRule b how now g answer s') (sym (ap shares_in there ∙ ap run.is_shared e)) same)
+  opens : (it : Standard) (how : Access) (from_is : Input) (streams : Streams) → (at_context of guest.settings).input ≡ from_is → Goes (call.Open it how) (settled guest (act (Make (opened from_is of it how) None) guest.own) shared streams)
+  opens standard.Input how from.Shared streams e = shared_opens how streams (ap (λ o. shares_in o of) there ∙ ap run.is_shared e)
+  opens standard.Input how from.Terminal streams e = shared_opens how streams (ap (λ o. shares_in o of) there ∙ ap run.is_shared e)
+  opens standard.Input how from.Empty streams e = stream_opens standard.Input how streams (λ s' same answer. subst (λ b. OpenRule b how now g answer s') (sym (ap (λ o. shares_in o of) there ∙ ap run.is_shared e)) same)
+  opens standard.Input how from.Closed streams e = stream_opens standard.Input how streams (λ s' same answer. subst (λ b. OpenRule b how now g answer s') (sym (ap (λ o. shares_in o of) there ∙ ap run.is_shared e)) same)
+  opens standard.Input how (from.Named name) streams e = stream_opens standard.Input how streams (λ s' same answer. subst (λ b. OpenRule b how now g answer s') (sym (ap (λ o. shares_in o of) there ∙ ap run.is_shared e)) same)
   opens standard.Output how from.Shared streams e = stream_opens standard.Output how streams (λ s' same answer. same)
   opens standard.Error how from.Shared streams e = stream_opens standard.Error how streams (λ s' same answer. same)
   opens standard.Output how from.Terminal streams e = stream_opens standard.Output how streams (λ s' same answer. same)
@@ -270,9 +271,9 @@ module _ (input front : List ℕ) (shared : Shared) (guests : ℕ → Option Gue
     where
       by : (e : Entry) (parent : Option ℕ) → held_at guest.own.table n ≡ Some (record { entry = e; parent = parent }) → Goes (call.On n it) (answer_at (the_calls clocks) it (record { guest = g; number = n }) (Some e) guest shared streams)
       by (entry.Shared e) parent held = shared_next it n e parent streams held
-      by (entry.Stream standard.Input e) parent held = let done : Doing InStream = called it (record { guest = g; number = n }) e (input_at guest.settings.input streams) in apart_next it n done.deed (put_input guest.settings.input done.left streams) (ap standing_at held)
-      by (entry.Stream standard.Output e) parent held = let done : Doing OutStream = sent it standard.Output (record { guest = g; number = n }) e (output_at guest.settings.stdout streams) in apart_next it n done.deed (put_output guest.settings.stdout done.left streams) (ap standing_at held)
-      by (entry.Stream standard.Error e) parent held = let done : Doing OutStream = sent it standard.Error (record { guest = g; number = n }) e (output_at guest.settings.stderr streams) in apart_next it n done.deed (put_output guest.settings.stderr done.left streams) (ap standing_at held)
+      by (entry.Stream made_for standard.Input e) parent held = let done : Doing InStream = called it made_for (record { guest = g; number = n }) e (input_at (at_context made_for guest.settings).input streams) in apart_next it n done.deed (put_input (at_context made_for guest.settings).input done.left streams) (ap standing_at held)
+      by (entry.Stream made_for standard.Output e) parent held = let done : Doing OutStream = sent it made_for standard.Output (record { guest = g; number = n }) e (output_at (at_context made_for guest.settings).stdout streams) in apart_next it n done.deed (put_output (at_context made_for guest.settings).stdout done.left streams) (ap standing_at held)
+      by (entry.Stream made_for standard.Error e) parent held = let done : Doing OutStream = sent it made_for standard.Error (record { guest = g; number = n }) e (output_at (at_context made_for guest.settings).stderr streams) in apart_next it n done.deed (put_output (at_context made_for guest.settings).stderr done.left streams) (ap standing_at held)
       by (entry.Own e) parent held = apart_next it n (awaited clocks it (record { guest = g; number = n }) e) streams (ap standing_at held)
 
   -- ---- a drop
@@ -291,13 +292,13 @@ module _ (input front : List ℕ) (shared : Shared) (guests : ℕ → Option Gue
   terminal_next it deed streams = other (call.Terminal it) (act (apart deed) guest.own) streams (follow (call.Terminal it) (apart deed) (λ live. refl)) (stands_still guest.own (live g) is.own deed) (λ s' e. e) refl
 
   -- ---- a call on the guest's random sources: nothing of it shows but what it is told
-  random_next : (it : RandomCall) (done : Drawn) (streams : Streams) → Goes (call.Random it) (on_sources done guest shared streams)
+  random_next : (it : RandomCall) (done : Drawn) (streams : Streams) → Goes (call.Random it) (on_sources done of guest shared streams)
   random_next it done streams =
       let told : Done = only_told done.told guest.own in
       let before = other (call.Random it) told streams (follow (call.Random it) (Tell done.told) (λ live. refl)) (λ m. refl) (λ s' e. e) refl in
-      drawn_from (left_guest guest told.reply told.own) done.left before
+      drawn_from (left_guest guest told.reply told.own) (put_context of done.left guest.sources) before
     where
-      drawn_from : (left : Guest) (sources : Sources) → Goes (call.Random it) (record { reply = reply.Told done.told; guest = left; shared = shared; streams = streams }) → Goes (call.Random it) (record { reply = reply.Told done.told; guest = record left { sources = sources }; shared = shared; streams = streams })
+      drawn_from : (left : Guest) (sources : ByContext Sources) → Goes (call.Random it) (record { reply = reply.Told done.told; guest = left; shared = shared; streams = streams }) → Goes (call.Random it) (record { reply = reply.Told done.told; guest = record left { sources = sources }; shared = shared; streams = streams })
       drawn_from left sources before = record {
         front' = before.front';
         live' = before.live';
@@ -305,19 +306,19 @@ module _ (input front : List ℕ) (shared : Shared) (guests : ℕ → Option Gue
         input_is = before.input_is;
         sound = before.sound;
         owned = λ m. owned_again (nat_eq m g) left sources (guests m) (before.live' m) (before.owned m);
-        rule = subst (λ s. EndedRule false (call.Random it) input now g (reply.Told done.told) s) (sources_apart before.front' shared guests before.live' told g left sources) before.rule;
+        rule = subst (λ s. EndedRule false (call.Random it) input now g of (reply.Told done.told) s) (sources_apart before.front' shared guests before.live' told g left sources) before.rule;
       }
 
-  pub goes_next : (clocks : Clocks) (c : Call) (streams : Streams) → Goes c (answer_to (the_calls clocks) c g guest shared streams)
-  goes_next clocks (call.Open it how) streams = opens it how guest.settings.input streams refl
+  pub goes_next : (clocks : Clocks) (c : Call) (streams : Streams) → Goes c (answer_to (the_calls clocks) c g of guest shared streams)
+  goes_next clocks (call.Open it how) streams = opens it how (at_context of guest.settings).input streams refl
   goes_next clocks (call.On n it) streams = entry_next clocks it n (held_at guest.own.table n) streams refl
   goes_next clocks (call.Drop n) streams = drop_next n (leave_entry (leaver.Entry (record { guest = g; number = n })) (entry_at guest.own n) guest.settings streams)
-  goes_next clocks (call.Own it) streams = own_next it (own_deed clocks it guest.settings guest.own) streams
-  goes_next clocks (call.Terminal it) streams = terminal_next it (opened_terminal it guest.settings) streams
-  goes_next clocks (call.Random it) streams = random_next it (drawn it guest.settings guest.sources) streams
+  goes_next clocks (call.Terminal it) streams = terminal_next it (opened_terminal it (at_context of guest.settings)) streams
+  goes_next clocks (call.Own it) streams = own_next it (own_deed clocks it (at_context of guest.settings) guest.own) streams
+  goes_next clocks (call.Random it) streams = random_next it (drawn it (at_context of guest.settings) (at_context of guest.sources)) streams
 
-pub call_next : (clocks : Clocks) (b : Bool) (c : Call) (input front : List ℕ) (shared : Shared) (guests : ℕ → Option Guest) (live : ℕ → FinSet nat_cmp) (told : Told) (g : ℕ) (guest : Guest) (streams : Streams) → guest.ended ≡ b → guests g ≡ Some guest → IsGuest guest (live g) → ((m : ℕ) → OwnedBy (guests m) (live m)) → IsSound shared → input ≡ front ++ (shared.held ++ told.left) → let done : Answered = answer_by b (the_calls clocks) c g guest shared streams in Next input front shared guests live told (λ s. call_bytes b c input s g done.reply) (λ s s'. EndedRule b c input s g done.reply s') done.shared (at_number guests g (Some done.guest)) told
-call_next clocks true c input front shared guests live told g guest streams ended there is owned sound input_is = record {
+pub call_next : (clocks : Clocks) (b : Bool) (c : Call) (input front : List ℕ) (shared : Shared) (guests : ℕ → Option Guest) (live : ℕ → FinSet nat_cmp) (told : Told) (g : ℕ) (of : Option ℕ) (guest : Guest) (streams : Streams) → guest.ended ≡ b → guests g ≡ Some guest → IsGuest guest (live g) → ((m : ℕ) → OwnedBy (guests m) (live m)) → IsSound shared → input ≡ front ++ (shared.held ++ told.left) → let done : Answered = answer_by b (the_calls clocks) c g of guest shared streams in Next input front shared guests live told (λ s. call_bytes b c input s g done.reply) (λ s s'. EndedRule b c input s g of done.reply s') done.shared (at_number guests g (Some done.guest)) told
+call_next clocks true c input front shared guests live told g of guest streams ended there is owned sound input_is = record {
   front' = front;
   live' = at_number live g (live g);
   front_is = sym (append-nil front);
@@ -326,5 +327,5 @@ call_next clocks true c input front shared guests live told g guest streams ende
   owned = owned_put guests live g (Some (with_own guest guest.own)) (live g) owned (record { own = is.own; fresh = λ e. absurd (true≢false e) });
   rule = (refl, (λ i. shown front shared (at_number guests g (Some (with_own guest guest.own))) (λ m. cond_same live m g (live g) refl i) told) ∙ put_same front shared guests live told g guest there);
 }
-call_next clocks false c input front shared guests live told g guest streams ended there is owned sound input_is =
-    goes_next input front shared guests live told g guest ended there is owned sound input_is clocks c streams
+call_next clocks false c input front shared guests live told g of guest streams ended there is owned sound input_is =
+    goes_next input front shared guests live told g of guest ended there is owned sound input_is clocks c streams

@@ -2,7 +2,7 @@
 use Rattle.std.proofs.lemmas.Bool.Decides.{nat_tests}
 use Rattle.std.proofs.Common.{◌≡◌, ℕ, zero, suc, arith, Bool, true, false, cond, List, [], ◌∷◌, ◌++◌, length, get_or, set, Option, Some, None, refl, ap, sym, ◌∙◌, subst, true≢false}
 use Rattle.std.specs.Prelude.{eqb, nat_eq, not, ◌&&◌, ◌||◌, replicate, unwrap_or, filter, map}
-use Rattle.std.specs.List.{list_any}
+use Rattle.std.specs.List.{list_any, AllByRecursion}
 use Rattle.std.specs.Map.{lookup}
 use Rattle.std.specs.Ordering.{nat_cmp}
 use Rattle.std.specs.FinMap as finmap
@@ -29,6 +29,7 @@ use Rattle.wasi_script.specs.declared.lines.EntryCall.{EntryCall}
 use Rattle.wasi_script.specs.declared.lines.Call.{Call}
 use Rattle.wasi_script.specs.declared.lines.Call.TheVariants as call
 use Rattle.wasi_script.specs.declared.lines.StreamTask.TheVariants as task
+use Rattle.wasi_script.specs.declared.lines.Context.{Context}
 use Rattle.wasi_script.specs.declared.lines.Line.{Line}
 use Rattle.wasi_script.specs.declared.lines.Line.TheVariants as line
 use Rattle.wasi_reply.specs.declared.reply.Told.{Told as Answer}
@@ -49,13 +50,15 @@ use Rattle.wasi_host.specs.declared.leaver.Leaver.{Leaver}
 use Rattle.wasi_host.specs.declared.leaver.Leaver.TheVariants as leaver
 use Rattle.wasi_host.specs.InStreams.{input_without}
 use Rattle.wasi_host.specs.OutStreams.{taken_of, output_without}
+use Rattle.wasi_host.specs.Contexts.{ByContext, at_context, put_context}
 use Rattle.wasi_host.specs.Deeds.{Own, Done, only_told, trapped, entry_at, may_make, may_change, made, with_kept, act, dropped, dropped_at, is_shared, apart}
-use Rattle.wasi_host.specs.Calls.{Owner, opened, opened_terminal}
+use Rattle.wasi_host.specs.Calls.{Owner, Settings, opened, opened_terminal}
 use Rattle.wasi_host.specs.Clocks.{Clocks, clocks_after}
-use Rattle.wasi_host.specs.Host.{Named, Guest, left_own, left_guest, Streams, taken_out, put_back, input_at, put_input, output_at, put_output, leave_input, leave_output, leave_entry, leave_all, left_streams, Host, Rules, the_rules, Answered, guest_of, new_guest, configured, new_host, new_input, new_output, answer_at, answer_to, answer_by, answer_in, answer, given_for, size_read, step_reply, step_host, step_told, reply_by, host_by, replies, host_end}
+use Rattle.wasi_host.specs.Host.{Named, Guest, left_own, left_guest, Streams, taken_out, put_back, input_at, put_input, output_at, put_output, leave_input, leave_output, leave_entry, leave_context, leave_each, leave_all, left_streams, Host, Rules, the_rules, Answered, guest_of, with_guest, new_settings, new_guest, with_context, with_capacity, settings_set, configured, new_host, new_input, new_output, answer_at, answer_to, answer_by, answer_in, answer, given_for, size_read, step_reply, step_host, step_told, reply_by, host_by, replies, host_end}
 use Rattle.wasi_host.specs.Host as host
 use Rattle.wasi_host.specs.Run as run
 use Rattle.wasi_host.specs.Promises.{SeesSame}
+use Rattle.wasi_host.specs.laws.Contexts.{OfEach, of_each_at, of_each_put, of_each_more}
 use Rattle.wasi_host.specs.laws.Steps.{left_false, right_false}
 use Rattle.wasi_host.specs.View.{input_names, output_names, setting_names, line_names, names_by, is_guest, is_other, is_seen, view, shares, IsApart, kept_if, replies_to, outputs_seen, IsAlone}
 
@@ -230,7 +233,8 @@ SettingApart mine own other = Unit {0}
 
 abbrev LineApart : (List ℕ → Bool) → ℕ → Line → Type 0
 LineApart mine g (line.Guest k it) = InputApart mine (nat_eq k g) it
-LineApart mine g (line.Configure k it) = SettingApart mine (nat_eq k g) it
+LineApart mine g (line.Context k id it) = InputApart mine (nat_eq k g) it
+LineApart mine g (line.Configure caller it) = SettingApart mine (nat_eq caller.guest g) it
 LineApart mine g other = Unit {0}
 
 abbrev LinesApart : (List ℕ → Bool) → ℕ → List Line → Type 0
@@ -252,10 +256,13 @@ module _ (rules : Rules) (mine : List ℕ → Bool) (g : ℕ) where
     clocks : one.clocks ≡ two.clocks
 
   -- a guest that names what is the guest's own exactly where it is that one, which then has nothing of the shared input
+  record SettingsFit (own : Bool) (settings : Settings) : Type 0 where
+    reads : InputApart mine own settings.input
+    writes : OutputApart mine own settings.stdout
+    tells : OutputApart mine own settings.stderr
+
   record Fits (own : Bool) (guest : Guest) : Type 0 where
-    reads : InputApart mine own guest.settings.input
-    writes : OutputApart mine own guest.settings.stdout
-    tells : OutputApart mine own guest.settings.stderr
+    names : OfEach (SettingsFit own) guest.settings
     unshared : own ≡ true → Unshared guest.own
 
   abbrev FitsAt : ℕ → Option Guest → Type 0
@@ -264,6 +271,9 @@ module _ (rules : Rules) (mine : List ℕ → Bool) (g : ℕ) where
 
   abbrev AllFit : Host → Type 0
   AllFit host = (k : ℕ) → FitsAt k (guest_of host k)
+
+  fits_at : (own : Bool) (settings : ByContext Settings) → OfEach (SettingsFit own) settings → (of : Option ℕ) → SettingsFit own (at_context of settings)
+  fits_at own settings fits of = of_each_at (SettingsFit own) settings fits of
 
   same_refl : (streams : Streams) → Same streams streams
   same_refl streams = record { inputs = refl; outputs = refl }
@@ -281,9 +291,9 @@ module _ (rules : Rules) (mine : List ℕ → Bool) (g : ℕ) where
   at_other : (clocks : Clocks) (it : EntryCall) (at : Owner) (o : Option Entry) (guest : Guest) (s : Shared) (streams : Streams) → Fits false guest → Same (answer_at (rules.calls clocks) it at o guest s streams).streams streams
   at_other clocks it at None guest s streams fits = same_refl streams
   at_other clocks it at (Some (entry.Shared e)) guest s streams fits = same_refl streams
-  at_other clocks it at (Some (entry.Stream standard.Input e)) guest s streams fits = put_input_other guest.settings.input _ streams fits.reads
-  at_other clocks it at (Some (entry.Stream standard.Output e)) guest s streams fits = put_output_other guest.settings.stdout _ streams fits.writes
-  at_other clocks it at (Some (entry.Stream standard.Error e)) guest s streams fits = put_output_other guest.settings.stderr _ streams fits.tells
+  at_other clocks it at (Some (entry.Stream of standard.Input e)) guest s streams fits = put_input_other (at_context of guest.settings).input _ streams (fits_at false guest.settings fits.names of).reads
+  at_other clocks it at (Some (entry.Stream of standard.Output e)) guest s streams fits = put_output_other (at_context of guest.settings).stdout _ streams (fits_at false guest.settings fits.names of).writes
+  at_other clocks it at (Some (entry.Stream of standard.Error e)) guest s streams fits = put_output_other (at_context of guest.settings).stderr _ streams (fits_at false guest.settings fits.names of).tells
   at_other clocks it at (Some (entry.Own e)) guest s streams fits = same_refl streams
 
   trans_same : (three two one : Streams) → Same three two → Same two one → Same three one
@@ -293,29 +303,38 @@ module _ (rules : Rules) (mine : List ℕ → Bool) (g : ℕ) where
   entry_other who None guest streams fits = same_refl streams
   entry_other who (Some (entry.Shared e)) guest streams fits = same_refl streams
   entry_other who (Some (entry.Own e)) guest streams fits = same_refl streams
-  entry_other who (Some (entry.Stream standard.Input e)) guest streams fits = put_input_other guest.settings.input _ streams fits.reads
-  entry_other who (Some (entry.Stream standard.Output e)) guest streams fits = put_output_other guest.settings.stdout _ streams fits.writes
-  entry_other who (Some (entry.Stream standard.Error e)) guest streams fits = put_output_other guest.settings.stderr _ streams fits.tells
+  entry_other who (Some (entry.Stream of standard.Input e)) guest streams fits = put_input_other (at_context of guest.settings).input _ streams (fits_at false guest.settings fits.names of).reads
+  entry_other who (Some (entry.Stream of standard.Output e)) guest streams fits = put_output_other (at_context of guest.settings).stdout _ streams (fits_at false guest.settings fits.names of).writes
+  entry_other who (Some (entry.Stream of standard.Error e)) guest streams fits = put_output_other (at_context of guest.settings).stderr _ streams (fits_at false guest.settings fits.names of).tells
+
+  context_other : (who : Leaver) (settings : Settings) (streams : Streams) → SettingsFit false settings → Same (leave_context who settings streams) streams
+  context_other who settings streams fits =
+      let one = leave_input who settings.input streams in
+      let two = leave_output who settings.stdout one in
+      trans_same (leave_output who settings.stderr two) two streams (put_output_other settings.stderr _ two fits.tells) (trans_same two one streams (put_output_other settings.stdout _ one fits.writes) (put_input_other settings.input _ streams fits.reads))
+
+  each_other : (who : Leaver) (rows : List (ℕ × Settings)) (streams : Streams) → AllByRecursion (λ (row : ℕ × Settings). SettingsFit false row.1) rows → Same (leave_each who rows streams) streams
+  each_other who [] streams fits = same_refl streams
+  each_other who (row ∷ rows) streams fits = let left = leave_context who row.1 streams in trans_same (leave_each who rows left) left streams (each_other who rows left fits.1) (context_other who row.1 streams fits.0)
 
   left_other : (b : Bool) (who : Leaver) (guest : Guest) (streams : Streams) → Fits false guest → Same (cond b (leave_all who guest.settings streams) streams) streams
   left_other true who guest streams fits =
-      let one = leave_input who guest.settings.input streams in
-      let two = leave_output who guest.settings.stdout one in
-      trans_same (leave_output who guest.settings.stderr two) two streams (put_output_other guest.settings.stderr _ two fits.tells) (trans_same two one streams (put_output_other guest.settings.stdout _ one fits.writes) (put_input_other guest.settings.input _ streams fits.reads))
+      let left = leave_context who guest.settings.main streams in
+      trans_same (leave_each who guest.settings.named left) left streams (each_other who guest.settings.named left fits.names.named) (context_other who guest.settings.main streams fits.names.main)
   left_other false who guest streams fits = same_refl streams
 
-  to_other : (clocks : Clocks) (c : Call) (k : ℕ) (guest : Guest) (s : Shared) (streams : Streams) → Fits false guest → Same (answer_to (rules.calls clocks) c k guest s streams).streams streams
-  to_other clocks (call.On n it) k guest s streams fits = at_other clocks it (record { guest = k; number = n }) (entry_at guest.own n) guest s streams fits
-  to_other clocks (call.Drop n) k guest s streams fits = entry_other (leaver.Entry (record { guest = k; number = n })) (entry_at guest.own n) guest streams fits
-  to_other clocks other k guest s streams fits = same_refl streams
+  to_other : (clocks : Clocks) (c : Call) (k : ℕ) (of : Option ℕ) (guest : Guest) (s : Shared) (streams : Streams) → Fits false guest → Same (answer_to (rules.calls clocks) c k of guest s streams).streams streams
+  to_other clocks (call.On n it) k of guest s streams fits = at_other clocks it (record { guest = k; number = n }) (entry_at guest.own n) guest s streams fits
+  to_other clocks (call.Drop n) k of guest s streams fits = entry_other (leaver.Entry (record { guest = k; number = n })) (entry_at guest.own n) guest streams fits
+  to_other clocks other k of guest s streams fits = same_refl streams
 
-  by_other : (clocks : Clocks) (b : Bool) (c : Call) (k : ℕ) (guest : Guest) (s : Shared) (streams : Streams) → Fits false guest → Same (answer_by b (rules.calls clocks) c k guest s streams).streams streams
-  by_other clocks true c k guest s streams fits = same_refl streams
-  by_other clocks false c k guest s streams fits = let done = answer_to (rules.calls clocks) c k guest s streams in trans_same (left_streams done.reply k guest.settings done.streams) done.streams streams (left_other (ends done.reply) (leaver.Guest k) guest done.streams fits) (to_other clocks c k guest s streams fits)
+  by_other : (clocks : Clocks) (b : Bool) (c : Call) (k : ℕ) (of : Option ℕ) (guest : Guest) (s : Shared) (streams : Streams) → Fits false guest → Same (answer_by b (rules.calls clocks) c k of guest s streams).streams streams
+  by_other clocks true c k of guest s streams fits = same_refl streams
+  by_other clocks false c k of guest s streams fits = let done = answer_to (rules.calls clocks) c k of guest s streams in trans_same (left_streams done.reply k guest.settings done.streams) done.streams streams (left_other (ends done.reply) (leaver.Guest k) guest done.streams fits) (to_other clocks c k of guest s streams fits)
 
-  in_other : (clocks : Clocks) (c : Call) (k : ℕ) (o : Option Guest) (s : Shared) (streams : Streams) → nat_eq k g ≡ false → FitsAt k o → Same (answer_in (rules.calls clocks) c k o s streams).streams streams
-  in_other clocks c k None s streams apart fits = same_refl streams
-  in_other clocks c k (Some guest) s streams apart fits = by_other clocks guest.ended c k guest s streams (subst (λ own. Fits own guest) apart fits)
+  in_other : (clocks : Clocks) (c : Call) (caller : Context) (o : Option Guest) (s : Shared) (streams : Streams) → nat_eq caller.guest g ≡ false → FitsAt caller.guest o → Same (answer_in (rules.calls clocks) c caller o s streams).streams streams
+  in_other clocks c caller None s streams apart fits = same_refl streams
+  in_other clocks c caller (Some guest) s streams apart fits = by_other clocks guest.ended c caller.guest caller.named guest s streams (subst (λ own. Fits own guest) apart fits)
 
   -- ---- a line that the guest does not see leaves what it can tell apart
   elsewhere : (host : Host) (k : ℕ) (x : Option Guest) (s : Shared) (streams : Streams) → nat_eq k g ≡ false → Same streams host.streams → Alike (record { shared = s; guests = set host.guests k x; streams = streams; clocks = host.clocks }) host
@@ -325,10 +344,13 @@ module _ (rules : Rules) (mine : List ℕ → Bool) (g : ℕ) where
   unseen (line.Input name it) host given fits e = record { guest = refl; places = refl; streams = record { inputs = kept_same mine host.streams.inputs name (new_input it) e; outputs = refl }; clocks = refl }
   unseen (line.Output name it) host given fits e = record { guest = refl; places = refl; streams = record { inputs = refl; outputs = kept_same mine host.streams.outputs name (new_output it) e }; clocks = refl }
   unseen (line.Guest k it) host given fits e = elsewhere host k (Some (new_guest it)) host.shared host.streams e (same_refl host.streams)
-  unseen (line.Configure k it) host given fits e = elsewhere host k (option_map (configured it) (guest_of host k)) host.shared host.streams e (same_refl host.streams)
-  unseen (line.Call k c) host given fits e =
-      let done = answer (rules.calls host.clocks) c k host in
-      elsewhere host k (Some done.guest) done.shared done.streams e (in_other host.clocks c k (guest_of host k) host.shared host.streams e (fits k))
+  unseen (line.Context k id it) host given fits e = elsewhere host k (option_map (with_context id it) (guest_of host k)) host.shared host.streams e (same_refl host.streams)
+  unseen (line.Capacity k capacity) host given fits e = elsewhere host k (option_map (with_capacity capacity) (guest_of host k)) host.shared host.streams e (same_refl host.streams)
+  unseen (line.Configure caller it) host given fits e = let k = caller.guest in elsewhere host k (option_map (configured it caller.named) (guest_of host k)) host.shared host.streams e (same_refl host.streams)
+  unseen (line.Call caller c) host given fits e =
+      let k = caller.guest in
+      let done = answer (rules.calls host.clocks) c caller host in
+      elsewhere host k (Some done.guest) done.shared done.streams e (in_other host.clocks c caller (guest_of host k) host.shared host.streams e (fits k))
   unseen (line.Turn (task.Reader name)) host given fits e = record { guest = refl; places = refl; streams = put_input_other (input.Named name) (rules.read_ahead (input_at (input.Named name) host.streams)).left host.streams e; clocks = refl }
   unseen (line.Turn (task.Writer name)) host given fits e = record { guest = refl; places = refl; streams = put_output_other (output.Named name) (rules.written_behind (output_at (output.Named name) host.streams)).left host.streams e; clocks = refl }
   unseen (line.Worker it) host given fits e = record { guest = refl; places = refl; streams = same_refl host.streams; clocks = refl }
@@ -359,13 +381,13 @@ module _ (rules : Rules) (mine : List ℕ → Bool) (g : ℕ) where
   put_output_same (output.Terminal n) a b one two apart e same = record { inputs = same.inputs; outputs = kept_own mine n a one.outputs apart ∙ (λ i. put_back n (e i) (same.outputs i)) ∙ sym (kept_own mine n b two.outputs apart) }
   put_output_same other a b one two apart e same = same
 
-  on_output : (clocks : Clocks) (it : EntryCall) (at : Owner) (which : Standard) (e : StreamEntry) (to : Output) (guest : Guest) (s s' : Shared) (one two : Streams) → OutputApart mine true to → Same one two → Tells (host.on_output ((rules.calls clocks).sent it which at e (output_at to one)) to guest s one) (host.on_output ((rules.calls clocks).sent it which at e (output_at to two)) to guest s' two)
-  on_output clocks it at which e to guest s s' one two named same =
+  on_output : (clocks : Clocks) (it : EntryCall) (of : Option ℕ) (at : Owner) (which : Standard) (e : StreamEntry) (to : Output) (guest : Guest) (s s' : Shared) (one two : Streams) → OutputApart mine true to → Same one two → Tells (host.on_output ((rules.calls clocks).sent it of which at e (output_at to one)) to guest s one) (host.on_output ((rules.calls clocks).sent it of which at e (output_at to two)) to guest s' two)
+  on_output clocks it of at which e to guest s s' one two named same =
       let stream = output_same to one two named same in
       record {
-        reply = ap (λ stream. (act (apart ((rules.calls clocks).sent it which at e stream).deed) guest.own).reply) stream;
-        guest = ap (λ stream. let done : Done = act (apart ((rules.calls clocks).sent it which at e stream).deed) guest.own in left_guest guest done.reply done.own) stream;
-        streams = put_output_same to ((rules.calls clocks).sent it which at e (output_at to one)).left ((rules.calls clocks).sent it which at e (output_at to two)).left one two named (ap (λ stream. ((rules.calls clocks).sent it which at e stream).left) stream) same;
+        reply = ap (λ stream. (act (apart ((rules.calls clocks).sent it of which at e stream).deed) guest.own).reply) stream;
+        guest = ap (λ stream. let done : Done = act (apart ((rules.calls clocks).sent it of which at e stream).deed) guest.own in left_guest guest done.reply done.own) stream;
+        streams = put_output_same to ((rules.calls clocks).sent it of which at e (output_at to one)).left ((rules.calls clocks).sent it of which at e (output_at to two)).left one two named (ap (λ stream. ((rules.calls clocks).sent it of which at e stream).left) stream) same;
       }
 
   at_told : (clocks : Clocks) (it : EntryCall) (at : Owner) (o : Option (Held Entry)) (guest : Guest) (s s' : Shared) (one two : Streams) → shared_in o ≡ false → Fits true guest → Same one two → Tells (answer_at (rules.calls clocks) it at (entry_in o) guest s one) (answer_at (rules.calls clocks) it at (entry_in o) guest s' two)
@@ -375,15 +397,16 @@ module _ (rules : Rules) (mine : List ℕ → Bool) (g : ℕ) where
     where
       by : (e : Entry) → is_shared e ≡ false → Tells (answer_at (rules.calls clocks) it at (Some e) guest s one) (answer_at (rules.calls clocks) it at (Some e) guest s' two)
       by (entry.Shared e) none = absurd (true≢false none)
-      by (entry.Stream standard.Input e) none =
-          let stream = input_same guest.settings.input one two fits.reads same in
+      by (entry.Stream of standard.Input e) none =
+          let reads = (fits_at true guest.settings fits.names of).reads in
+          let stream = input_same (at_context of guest.settings).input one two reads same in
           record {
-            reply = ap (λ stream. (act (apart ((rules.calls clocks).called it at e stream).deed) guest.own).reply) stream;
-            guest = ap (λ stream. let done : Done = act (apart ((rules.calls clocks).called it at e stream).deed) guest.own in left_guest guest done.reply done.own) stream;
-            streams = put_input_same guest.settings.input ((rules.calls clocks).called it at e (input_at guest.settings.input one)).left ((rules.calls clocks).called it at e (input_at guest.settings.input two)).left one two fits.reads (ap (λ stream. ((rules.calls clocks).called it at e stream).left) stream) same;
+            reply = ap (λ stream. (act (apart ((rules.calls clocks).called it of at e stream).deed) guest.own).reply) stream;
+            guest = ap (λ stream. let done : Done = act (apart ((rules.calls clocks).called it of at e stream).deed) guest.own in left_guest guest done.reply done.own) stream;
+            streams = put_input_same (at_context of guest.settings).input ((rules.calls clocks).called it of at e (input_at (at_context of guest.settings).input one)).left ((rules.calls clocks).called it of at e (input_at (at_context of guest.settings).input two)).left one two reads (ap (λ stream. ((rules.calls clocks).called it of at e stream).left) stream) same;
           }
-      by (entry.Stream standard.Output e) none = on_output clocks it at standard.Output e guest.settings.stdout guest s s' one two fits.writes same
-      by (entry.Stream standard.Error e) none = on_output clocks it at standard.Error e guest.settings.stderr guest s s' one two fits.tells same
+      by (entry.Stream of standard.Output e) none = on_output clocks it of at standard.Output e (at_context of guest.settings).stdout guest s s' one two (fits_at true guest.settings fits.names of).writes same
+      by (entry.Stream of standard.Error e) none = on_output clocks it of at standard.Error e (at_context of guest.settings).stderr guest s s' one two (fits_at true guest.settings fits.names of).tells same
       by (entry.Own e) none = record { reply = refl; guest = refl; streams = same }
 
   leave_input_same : (who : Leaver) (from : Input) (one two : Streams) → InputApart mine true from → Same one two → Same (leave_input who from one) (leave_input who from two)
@@ -396,31 +419,39 @@ module _ (rules : Rules) (mine : List ℕ → Bool) (g : ℕ) where
   entry_same who None guest one two fits same = same
   entry_same who (Some (entry.Shared e)) guest one two fits same = same
   entry_same who (Some (entry.Own e)) guest one two fits same = same
-  entry_same who (Some (entry.Stream standard.Input e)) guest one two fits same = leave_input_same who guest.settings.input one two fits.reads same
-  entry_same who (Some (entry.Stream standard.Output e)) guest one two fits same = leave_output_same who guest.settings.stdout one two fits.writes same
-  entry_same who (Some (entry.Stream standard.Error e)) guest one two fits same = leave_output_same who guest.settings.stderr one two fits.tells same
+  entry_same who (Some (entry.Stream of standard.Input e)) guest one two fits same = leave_input_same who (at_context of guest.settings).input one two (fits_at true guest.settings fits.names of).reads same
+  entry_same who (Some (entry.Stream of standard.Output e)) guest one two fits same = leave_output_same who (at_context of guest.settings).stdout one two (fits_at true guest.settings fits.names of).writes same
+  entry_same who (Some (entry.Stream of standard.Error e)) guest one two fits same = leave_output_same who (at_context of guest.settings).stderr one two (fits_at true guest.settings fits.names of).tells same
+
+  context_same : (who : Leaver) (settings : Settings) (one two : Streams) → SettingsFit true settings → Same one two → Same (leave_context who settings one) (leave_context who settings two)
+  context_same who settings one two fits same =
+      let read = leave_input_same who settings.input one two fits.reads same in
+      let written = leave_output_same who settings.stdout (leave_input who settings.input one) (leave_input who settings.input two) fits.writes read in
+      leave_output_same who settings.stderr (leave_output who settings.stdout (leave_input who settings.input one)) (leave_output who settings.stdout (leave_input who settings.input two)) fits.tells written
+
+  each_same : (who : Leaver) (rows : List (ℕ × Settings)) (one two : Streams) → AllByRecursion (λ (row : ℕ × Settings). SettingsFit true row.1) rows → Same one two → Same (leave_each who rows one) (leave_each who rows two)
+  each_same who [] one two fits same = same
+  each_same who (row ∷ rows) one two fits same = each_same who rows (leave_context who row.1 one) (leave_context who row.1 two) fits.1 (context_same who row.1 one two fits.0 same)
 
   left_same : (b : Bool) (who : Leaver) (guest : Guest) (one two : Streams) → Fits true guest → Same one two → Same (cond b (leave_all who guest.settings one) one) (cond b (leave_all who guest.settings two) two)
   left_same true who guest one two fits same =
-      let read = leave_input_same who guest.settings.input one two fits.reads same in
-      let written = leave_output_same who guest.settings.stdout (leave_input who guest.settings.input one) (leave_input who guest.settings.input two) fits.writes read in
-      leave_output_same who guest.settings.stderr (leave_output who guest.settings.stdout (leave_input who guest.settings.input one)) (leave_output who guest.settings.stdout (leave_input who guest.settings.input two)) fits.tells written
+      each_same who guest.settings.named (leave_context who guest.settings.main one) (leave_context who guest.settings.main two) fits.names.named (context_same who guest.settings.main one two fits.names.main same)
   left_same false who guest one two fits same = same
 
-  to_told : (clocks : Clocks) (c : Call) (k : ℕ) (guest : Guest) (s s' : Shared) (one two : Streams) → Fits true guest → Same one two → Tells (answer_to (rules.calls clocks) c k guest s one) (answer_to (rules.calls clocks) c k guest s' two)
-  to_told clocks (call.On n it) k guest s s' one two fits same = at_told clocks it (record { guest = k; number = n }) (held_at guest.own.table n) guest s s' one two (fits.unshared refl n) fits same
-  to_told clocks (call.Open it how) k guest s s' one two fits same = record { reply = refl; guest = refl; streams = same }
-  to_told clocks (call.Terminal it) k guest s s' one two fits same = record { reply = refl; guest = refl; streams = same }
-  to_told clocks (call.Drop n) k guest s s' one two fits same = record { reply = refl; guest = refl; streams = entry_same (leaver.Entry (record { guest = k; number = n })) (entry_at guest.own n) guest one two fits same }
-  to_told clocks (call.Own it) k guest s s' one two fits same = record { reply = refl; guest = refl; streams = same }
-  to_told clocks (call.Random it) k guest s s' one two fits same = record { reply = refl; guest = refl; streams = same }
+  to_told : (clocks : Clocks) (c : Call) (k : ℕ) (of : Option ℕ) (guest : Guest) (s s' : Shared) (one two : Streams) → Fits true guest → Same one two → Tells (answer_to (rules.calls clocks) c k of guest s one) (answer_to (rules.calls clocks) c k of guest s' two)
+  to_told clocks (call.On n it) k of guest s s' one two fits same = at_told clocks it (record { guest = k; number = n }) (held_at guest.own.table n) guest s s' one two (fits.unshared refl n) fits same
+  to_told clocks (call.Open it how) k of guest s s' one two fits same = record { reply = refl; guest = refl; streams = same }
+  to_told clocks (call.Drop n) k of guest s s' one two fits same = record { reply = refl; guest = refl; streams = entry_same (leaver.Entry (record { guest = k; number = n })) (entry_at guest.own n) guest one two fits same }
+  to_told clocks (call.Terminal it) k of guest s s' one two fits same = record { reply = refl; guest = refl; streams = same }
+  to_told clocks (call.Own it) k of guest s s' one two fits same = record { reply = refl; guest = refl; streams = same }
+  to_told clocks (call.Random it) k of guest s s' one two fits same = record { reply = refl; guest = refl; streams = same }
 
-  by_told : (clocks : Clocks) (b : Bool) (c : Call) (k : ℕ) (guest : Guest) (s s' : Shared) (one two : Streams) → Fits true guest → Same one two → Tells (answer_by b (rules.calls clocks) c k guest s one) (answer_by b (rules.calls clocks) c k guest s' two)
-  by_told clocks true c k guest s s' one two fits same = record { reply = refl; guest = refl; streams = same }
-  by_told clocks false c k guest s s' one two fits same =
-      let a = answer_to (rules.calls clocks) c k guest s one in
-      let b = answer_to (rules.calls clocks) c k guest s' two in
-      let told = to_told clocks c k guest s s' one two fits same in
+  by_told : (clocks : Clocks) (b : Bool) (c : Call) (k : ℕ) (of : Option ℕ) (guest : Guest) (s s' : Shared) (one two : Streams) → Fits true guest → Same one two → Tells (answer_by b (rules.calls clocks) c k of guest s one) (answer_by b (rules.calls clocks) c k of guest s' two)
+  by_told clocks true c k of guest s s' one two fits same = record { reply = refl; guest = refl; streams = same }
+  by_told clocks false c k of guest s s' one two fits same =
+      let a = answer_to (rules.calls clocks) c k of guest s one in
+      let b = answer_to (rules.calls clocks) c k of guest s' two in
+      let told = to_told clocks c k of guest s s' one two fits same in
       record {
         reply = told.reply;
         guest = told.guest;
@@ -429,9 +460,9 @@ module _ (rules : Rules) (mine : List ℕ → Bool) (g : ℕ) where
             (record { inputs = ap (λ answer. kept mine (left_streams answer k guest.settings b.streams).inputs) told.reply; outputs = ap (λ answer. kept mine (left_streams answer k guest.settings b.streams).outputs) told.reply });
       }
 
-  in_told : (clocks : Clocks) (c : Call) (k : ℕ) (o : Option Guest) (s s' : Shared) (one two : Streams) → nat_eq k g ≡ true → FitsAt k o → Same one two → Tells (answer_in (rules.calls clocks) c k o s one) (answer_in (rules.calls clocks) c k o s' two)
-  in_told clocks c k None s s' one two own fits same = record { reply = refl; guest = refl; streams = same }
-  in_told clocks c k (Some guest) s s' one two own fits same = by_told clocks guest.ended c k guest s s' one two (subst (λ own. Fits own guest) own fits) same
+  in_told : (clocks : Clocks) (c : Call) (caller : Context) (o : Option Guest) (s s' : Shared) (one two : Streams) → nat_eq caller.guest g ≡ true → FitsAt caller.guest o → Same one two → Tells (answer_in (rules.calls clocks) c caller o s one) (answer_in (rules.calls clocks) c caller o s' two)
+  in_told clocks c caller None s s' one two own fits same = record { reply = refl; guest = refl; streams = same }
+  in_told clocks c caller (Some guest) s s' one two own fits same = by_told clocks guest.ended c caller.guest caller.named guest s s' one two (subst (λ own. Fits own guest) own fits) same
 
   -- ---- a line that the guest sees
   record Seen (one two : Host) (a b : Reply) : Type 0 where
@@ -449,17 +480,24 @@ module _ (rules : Rules) (mine : List ℕ → Bool) (g : ℕ) where
   guests_same : (one two : Host) (k : ℕ) → nat_eq k g ≡ true → Alike one two → guest_of one k ≡ guest_of two k
   guests_same one two k own alike = let same : k ≡ g = eqb-true k g own in subst (λ (k : ℕ). guest_of one k ≡ guest_of two k) (sym same) alike.guest
 
+  -- a line that says more of the guest
+  says : (one two : Host) (k : ℕ) (change : Guest → Guest) → nat_eq k g ≡ true → Alike one two → Alike (with_guest k (option_map change (guest_of one k)) one) (with_guest k (option_map change (guest_of two k)) two)
+  says one two k change e alike = puts one two k (option_map change (guest_of one k)) (option_map change (guest_of two k)) one.shared two.shared one.streams two.streams (ap (option_map change) (guests_same one two k e alike)) alike.streams alike
+
   seen : (step : Line) (one two : Host) (given given' : Given) → AllFit one → Alike one two → is_seen mine g step ≡ true → Seen (host_by rules step one given) (host_by rules step two given') (reply_by rules step one given) (reply_by rules step two given')
   seen (line.Input name it) one two given given' fits alike e = record { reply = refl; alike = record { guest = alike.guest; places = alike.places; streams = record { inputs = kept_more mine one.streams.inputs name (new_input it) e ∙ ap (λ named. named ++ (name, new_input it) ∷ []) alike.streams.inputs ∙ sym (kept_more mine two.streams.inputs name (new_input it) e); outputs = alike.streams.outputs }; clocks = alike.clocks } }
   seen (line.Output name it) one two given given' fits alike e = record { reply = refl; alike = record { guest = alike.guest; places = alike.places; streams = record { inputs = alike.streams.inputs; outputs = kept_more mine one.streams.outputs name (new_output it) e ∙ ap (λ named. named ++ (name, new_output it) ∷ []) alike.streams.outputs ∙ sym (kept_more mine two.streams.outputs name (new_output it) e) }; clocks = alike.clocks } }
   seen (line.Guest k it) one two given given' fits alike e = record { reply = refl; alike = puts one two k (Some (new_guest it)) (Some (new_guest it)) one.shared two.shared one.streams two.streams refl alike.streams alike }
-  seen (line.Configure k it) one two given given' fits alike e = record { reply = refl; alike = puts one two k (option_map (configured it) (guest_of one k)) (option_map (configured it) (guest_of two k)) one.shared two.shared one.streams two.streams (ap (option_map (configured it)) (guests_same one two k e alike)) alike.streams alike }
-  seen (line.Call k c) one two given given' fits alike e =
-      let done = answer (rules.calls one.clocks) c k one in
-      let other : Answered = answer_in (rules.calls one.clocks) c k (guest_of one k) two.shared two.streams in
-      let there = answer (rules.calls two.clocks) c k two in
-      let told : Tells done other = in_told one.clocks c k (guest_of one k) one.shared two.shared one.streams two.streams e (fits k) alike.streams in
-      let same : other ≡ there = λ i. answer_in (rules.calls (alike.clocks i)) c k (guests_same one two k e alike i) two.shared two.streams in
+  seen (line.Context k id it) one two given given' fits alike e = record { reply = refl; alike = says one two k (with_context id it) e alike }
+  seen (line.Capacity k capacity) one two given given' fits alike e = record { reply = refl; alike = says one two k (with_capacity capacity) e alike }
+  seen (line.Configure caller it) one two given given' fits alike e = record { reply = refl; alike = says one two caller.guest (configured it caller.named) e alike }
+  seen (line.Call caller c) one two given given' fits alike e =
+      let k = caller.guest in
+      let done = answer (rules.calls one.clocks) c caller one in
+      let other : Answered = answer_in (rules.calls one.clocks) c caller (guest_of one k) two.shared two.streams in
+      let there = answer (rules.calls two.clocks) c caller two in
+      let told : Tells done other = in_told one.clocks c caller (guest_of one k) one.shared two.shared one.streams two.streams e (fits k) alike.streams in
+      let same : other ≡ there = λ i. answer_in (rules.calls (alike.clocks i)) c caller (guests_same one two k e alike i) two.shared two.streams in
       record {
         reply = told.reply ∙ ap (λ (it : Answered). it.reply) same;
         alike = puts one two k (Some done.guest) (Some there.guest) done.shared there.shared done.streams there.streams (ap Some (told.guest ∙ ap (λ (it : Answered). it.guest) same))
@@ -481,15 +519,33 @@ module _ (rules : Rules) (mine : List ℕ → Bool) (g : ℕ) where
   seen (line.Clock it) one two given given' fits alike e = record { reply = refl; alike = record { guest = alike.guest; places = alike.places; streams = alike.streams; clocks = ap (clocks_after it) alike.clocks } }
 
   -- ---- each step leaves guests that fit
-  configured_fits : (k : ℕ) (it : Setting) (o : Option Guest) → SettingApart mine (nat_eq k g) it → FitsAt k o → FitsAt k (option_map (configured it) o)
-  configured_fits k it None apart fits = tt
-  configured_fits k (setting.Stdout to) (Some guest) apart fits = record { reads = fits.reads; writes = apart; tells = fits.tells; unshared = fits.unshared }
-  configured_fits k (setting.Stderr to) (Some guest) apart fits = record { reads = fits.reads; writes = fits.writes; tells = apart; unshared = fits.unshared }
-  configured_fits k (setting.Capacity capacity) (Some guest) apart fits = record { reads = fits.reads; writes = fits.writes; tells = fits.tells; unshared = λ own. unshared_new capacity }
-  configured_fits k it (Some guest) apart fits = record { reads = fits.reads; writes = fits.writes; tells = fits.tells; unshared = fits.unshared }
+  setting_fits : (own : Bool) (it : Setting) (settings : Settings) → SettingApart mine own it → SettingsFit own settings → SettingsFit own (settings_set it settings)
+  setting_fits own (setting.Stdout to) settings apart fits = record { reads = fits.reads; writes = apart; tells = fits.tells }
+  setting_fits own (setting.Stderr to) settings apart fits = record { reads = fits.reads; writes = fits.writes; tells = apart }
+  setting_fits own other settings apart fits = record { reads = fits.reads; writes = fits.writes; tells = fits.tells }
+
+  new_fits : (own : Bool) (it : Input) → InputApart mine own it → SettingsFit own (new_settings it)
+  new_fits own it apart = record { reads = apart; writes = tt; tells = tt }
+
+  configured_fits : (k : ℕ) (it : Setting) (of : Option ℕ) (o : Option Guest) → SettingApart mine (nat_eq k g) it → FitsAt k o → FitsAt k (option_map (configured it of) o)
+  configured_fits k it of None apart fits = tt
+  configured_fits k it of (Some guest) apart fits =
+      let own = nat_eq k g in
+      record {
+        names = of_each_put (SettingsFit own) guest.settings fits.names of (settings_set it (at_context of guest.settings)) (setting_fits own it (at_context of guest.settings) apart (fits_at own guest.settings fits.names of));
+        unshared = fits.unshared;
+      }
+
+  context_fits : (k id : ℕ) (it : Input) (o : Option Guest) → InputApart mine (nat_eq k g) it → FitsAt k o → FitsAt k (option_map (with_context id it) o)
+  context_fits k id it None apart fits = tt
+  context_fits k id it (Some guest) apart fits = let own = nat_eq k g in record { names = of_each_more (SettingsFit own) guest.settings fits.names id (new_settings it) (new_fits own it apart); unshared = fits.unshared }
+
+  capacity_fits : (k capacity : ℕ) (o : Option Guest) → FitsAt k o → FitsAt k (option_map (with_capacity capacity) o)
+  capacity_fits k capacity None fits = tt
+  capacity_fits k capacity (Some guest) fits = record { names = fits.names; unshared = λ own. unshared_new capacity }
 
   left_fits : (own : Bool) (guest : Guest) (done : Done) → Fits own guest → (own ≡ true → Unshared done.own) → Fits own (left_guest guest done.reply done.own)
-  left_fits own guest done fits none = record { reads = fits.reads; writes = fits.writes; tells = fits.tells; unshared = λ is. left_unshared done.own done.reply (none is) }
+  left_fits own guest done fits none = record { names = fits.names; unshared = λ is. left_unshared done.own done.reply (none is) }
 
   at_fits : (clocks : Clocks) (own : Bool) (it : EntryCall) (at : Owner) (o : Option (Held Entry)) (guest : Guest) (s : Shared) (streams : Streams) → (own ≡ true → shared_in o ≡ false) → Fits own guest → Fits own (answer_at (rules.calls clocks) it at (entry_in o) guest s streams).guest
   unfolding shared_in
@@ -498,43 +554,47 @@ module _ (rules : Rules) (mine : List ℕ → Bool) (g : ℕ) where
     where
       by : (e : Entry) → (own ≡ true → is_shared e ≡ false) → Fits own (answer_at (rules.calls clocks) it at (Some e) guest s streams).guest
       by (entry.Shared e) none = left_fits own guest (act ((rules.calls clocks).asked it at e s).deed guest.own) fits (λ is. absurd (true≢false (none is)))
-      by (entry.Stream standard.Input e) none = left_fits own guest (act (apart ((rules.calls clocks).called it at e (input_at guest.settings.input streams)).deed) guest.own) fits (λ is. apart_unshared guest.own (fits.unshared is) ((rules.calls clocks).called it at e (input_at guest.settings.input streams)).deed)
-      by (entry.Stream standard.Output e) none = left_fits own guest (act (apart ((rules.calls clocks).sent it standard.Output at e (output_at guest.settings.stdout streams)).deed) guest.own) fits (λ is. apart_unshared guest.own (fits.unshared is) ((rules.calls clocks).sent it standard.Output at e (output_at guest.settings.stdout streams)).deed)
-      by (entry.Stream standard.Error e) none = left_fits own guest (act (apart ((rules.calls clocks).sent it standard.Error at e (output_at guest.settings.stderr streams)).deed) guest.own) fits (λ is. apart_unshared guest.own (fits.unshared is) ((rules.calls clocks).sent it standard.Error at e (output_at guest.settings.stderr streams)).deed)
+      by (entry.Stream of standard.Input e) none = left_fits own guest (act (apart ((rules.calls clocks).called it of at e (input_at (at_context of guest.settings).input streams)).deed) guest.own) fits (λ is. apart_unshared guest.own (fits.unshared is) ((rules.calls clocks).called it of at e (input_at (at_context of guest.settings).input streams)).deed)
+      by (entry.Stream of standard.Output e) none = left_fits own guest (act (apart ((rules.calls clocks).sent it of standard.Output at e (output_at (at_context of guest.settings).stdout streams)).deed) guest.own) fits (λ is. apart_unshared guest.own (fits.unshared is) ((rules.calls clocks).sent it of standard.Output at e (output_at (at_context of guest.settings).stdout streams)).deed)
+      by (entry.Stream of standard.Error e) none = left_fits own guest (act (apart ((rules.calls clocks).sent it of standard.Error at e (output_at (at_context of guest.settings).stderr streams)).deed) guest.own) fits (λ is. apart_unshared guest.own (fits.unshared is) ((rules.calls clocks).sent it of standard.Error at e (output_at (at_context of guest.settings).stderr streams)).deed)
       by (entry.Own e) none = left_fits own guest (act (apart ((rules.calls clocks).awaited it at e)) guest.own) fits (λ is. apart_unshared guest.own (fits.unshared is) ((rules.calls clocks).awaited it at e))
 
-  opened_unshared : (from : Input) (it : Standard) (how : Access) → InputApart mine true from → is_shared (opened from it how) ≡ false
-  opened_unshared input.Shared standard.Input how apart = absurd (true≢false apart)
-  opened_unshared input.Shared standard.Output how apart = absurd (true≢false apart)
-  opened_unshared input.Shared standard.Error how apart = absurd (true≢false apart)
-  opened_unshared input.Terminal standard.Input how apart = absurd (true≢false apart)
-  opened_unshared input.Terminal standard.Output how apart = absurd (true≢false apart)
-  opened_unshared input.Terminal standard.Error how apart = absurd (true≢false apart)
-  opened_unshared from it how apart = refl
+  opened_unshared : (from : Input) (of : Option ℕ) (it : Standard) (how : Access) → InputApart mine true from → is_shared (opened from of it how) ≡ false
+  opened_unshared input.Shared of it how apart = absurd (true≢false apart)
+  opened_unshared input.Terminal of it how apart = absurd (true≢false apart)
+  opened_unshared from of it how apart = refl
 
-  to_fits : (clocks : Clocks) (own : Bool) (c : Call) (k : ℕ) (guest : Guest) (s : Shared) (streams : Streams) → Fits own guest → Fits own (answer_to (rules.calls clocks) c k guest s streams).guest
-  to_fits clocks own (call.Open it how) k guest s streams fits = left_fits own guest (act (Make (opened guest.settings.input it how) None) guest.own) fits (λ is. make_unshared guest.own (fits.unshared is) (opened guest.settings.input it how) None (opened_unshared guest.settings.input it how (subst (λ own. InputApart mine own guest.settings.input) is fits.reads)))
-  to_fits clocks own (call.Terminal it) k guest s streams fits = left_fits own guest (act (apart (opened_terminal it guest.settings)) guest.own) fits (λ is. apart_unshared guest.own (fits.unshared is) (opened_terminal it guest.settings))
-  to_fits clocks own (call.On n it) k guest s streams fits = at_fits clocks own it (record { guest = k; number = n }) (held_at guest.own.table n) guest s streams (λ is. fits.unshared is n) fits
-  to_fits clocks own (call.Drop n) k guest s streams fits = left_fits own guest (dropped n guest.own) fits (λ is. dropped_unshared guest.own (fits.unshared is) n (entry_at guest.own n))
-  to_fits clocks own (call.Own it) k guest s streams fits = left_fits own guest (act (apart ((rules.calls clocks).owned it guest.settings guest.own)) guest.own) fits (λ is. apart_unshared guest.own (fits.unshared is) ((rules.calls clocks).owned it guest.settings guest.own))
-  to_fits clocks own (call.Random it) k guest s streams fits =
-      let done = (rules.calls clocks).drawn it guest.settings guest.sources in
-      let drawn : Guest = record guest { sources = done.left } in
-      left_fits own drawn (only_told done.told guest.own) (record { reads = fits.reads; writes = fits.writes; tells = fits.tells; unshared = fits.unshared }) fits.unshared
+  to_fits : (clocks : Clocks) (own : Bool) (c : Call) (k : ℕ) (of : Option ℕ) (guest : Guest) (s : Shared) (streams : Streams) → Fits own guest → Fits own (answer_to (rules.calls clocks) c k of guest s streams).guest
+  to_fits clocks own (call.Open it how) k of guest s streams fits =
+      let from = (at_context of guest.settings).input in
+      left_fits own guest (act (Make (opened from of it how) None) guest.own) fits (λ is. make_unshared guest.own (fits.unshared is) (opened from of it how) None (opened_unshared from of it how (subst (λ own. InputApart mine own from) is (fits_at own guest.settings fits.names of).reads)))
+  to_fits clocks own (call.On n it) k of guest s streams fits = at_fits clocks own it (record { guest = k; number = n }) (held_at guest.own.table n) guest s streams (λ is. fits.unshared is n) fits
+  to_fits clocks own (call.Drop n) k of guest s streams fits = left_fits own guest (dropped n guest.own) fits (λ is. dropped_unshared guest.own (fits.unshared is) n (entry_at guest.own n))
+  to_fits clocks own (call.Terminal it) k of guest s streams fits =
+      let deed = opened_terminal it (at_context of guest.settings) in
+      left_fits own guest (act (apart deed) guest.own) fits (λ is. apart_unshared guest.own (fits.unshared is) deed)
+  to_fits clocks own (call.Own it) k of guest s streams fits =
+      let settings = at_context of guest.settings in
+      left_fits own guest (act (apart ((rules.calls clocks).owned it settings guest.own)) guest.own) fits (λ is. apart_unshared guest.own (fits.unshared is) ((rules.calls clocks).owned it settings guest.own))
+  to_fits clocks own (call.Random it) k of guest s streams fits =
+      let done = (rules.calls clocks).drawn it (at_context of guest.settings) (at_context of guest.sources) in
+      let drawn : Guest = record guest { sources = put_context of done.left guest.sources } in
+      left_fits own drawn (only_told done.told guest.own) (record { names = fits.names; unshared = fits.unshared }) fits.unshared
 
-  by_fits : (clocks : Clocks) (own b : Bool) (c : Call) (k : ℕ) (guest : Guest) (s : Shared) (streams : Streams) → Fits own guest → Fits own (answer_by b (rules.calls clocks) c k guest s streams).guest
-  by_fits clocks own true c k guest s streams fits = record { reads = fits.reads; writes = fits.writes; tells = fits.tells; unshared = fits.unshared }
-  by_fits clocks own false c k guest s streams fits = to_fits clocks own c k guest s streams fits
+  by_fits : (clocks : Clocks) (own b : Bool) (c : Call) (k : ℕ) (of : Option ℕ) (guest : Guest) (s : Shared) (streams : Streams) → Fits own guest → Fits own (answer_by b (rules.calls clocks) c k of guest s streams).guest
+  by_fits clocks own true c k of guest s streams fits = record { names = fits.names; unshared = fits.unshared }
+  by_fits clocks own false c k of guest s streams fits = to_fits clocks own c k of guest s streams fits
 
-  in_fits : (clocks : Clocks) (c : Call) (k : ℕ) (o : Option Guest) (s : Shared) (streams : Streams) → FitsAt k o → Fits (nat_eq k g) (answer_in (rules.calls clocks) c k o s streams).guest
-  in_fits clocks c k None s streams fits = record { reads = tt; writes = tt; tells = tt; unshared = λ own. unshared_new 1024 }
-  in_fits clocks c k (Some guest) s streams fits = by_fits clocks (nat_eq k g) guest.ended c k guest s streams fits
+  in_fits : (clocks : Clocks) (c : Call) (caller : Context) (o : Option Guest) (s : Shared) (streams : Streams) → FitsAt caller.guest o → Fits (nat_eq caller.guest g) (answer_in (rules.calls clocks) c caller o s streams).guest
+  in_fits clocks c caller None s streams fits = record { names = record { main = new_fits (nat_eq caller.guest g) input.Empty tt; named = tt }; unshared = λ own. unshared_new 1024 }
+  in_fits clocks c caller (Some guest) s streams fits = by_fits clocks (nat_eq caller.guest g) guest.ended c caller.guest caller.named guest s streams fits
 
   all_fit : (step : Line) (host : Host) (given : Given) → LineApart mine g step → AllFit host → AllFit (host_by rules step host given)
-  all_fit (line.Guest k it) host given apart fits = set_holds FitsAt host.guests k (Some (new_guest it)) fits (record { reads = apart; writes = tt; tells = tt; unshared = λ own. unshared_new 1024 })
-  all_fit (line.Configure k it) host given apart fits = set_holds FitsAt host.guests k (option_map (configured it) (guest_of host k)) fits (configured_fits k it (guest_of host k) apart (fits k))
-  all_fit (line.Call k c) host given apart fits = set_holds FitsAt host.guests k (Some (answer (rules.calls host.clocks) c k host).guest) fits (in_fits host.clocks c k (guest_of host k) host.shared host.streams (fits k))
+  all_fit (line.Guest k it) host given apart fits = set_holds FitsAt host.guests k (Some (new_guest it)) fits (record { names = record { main = new_fits (nat_eq k g) it apart; named = tt }; unshared = λ own. unshared_new 1024 })
+  all_fit (line.Context k id it) host given apart fits = set_holds FitsAt host.guests k (option_map (with_context id it) (guest_of host k)) fits (context_fits k id it (guest_of host k) apart (fits k))
+  all_fit (line.Capacity k capacity) host given apart fits = set_holds FitsAt host.guests k (option_map (with_capacity capacity) (guest_of host k)) fits (capacity_fits k capacity (guest_of host k) (fits k))
+  all_fit (line.Configure caller it) host given apart fits = let k = caller.guest in set_holds FitsAt host.guests k (option_map (configured it caller.named) (guest_of host k)) fits (configured_fits k it caller.named (guest_of host k) apart (fits k))
+  all_fit (line.Call caller c) host given apart fits = let k = caller.guest in set_holds FitsAt host.guests k (Some (answer (rules.calls host.clocks) c caller host).guest) fits (in_fits host.clocks c caller (guest_of host k) host.shared host.streams (fits k))
   all_fit other host given apart fits = fits
 
   trans : (one two three : Host) → Alike one two → Alike two three → Alike one three
@@ -593,8 +653,8 @@ same_bytes n = (bytes_eq-Decides n n).1 refl
 module _ (mine : List ℕ → Bool) (g : ℕ) where
   output_named : (b : Bool) (it : Output) → ((name : List ℕ) → (b && output_names it name) ≡ true → mine name ≡ true) → ((name : List ℕ) → (not b && output_names it name) ≡ true → mine name ≡ false) → OutputApart mine b it
   output_named true (output.Named n) own other = own n (same_bytes n)
-  output_named true (output.Terminal n) own other = own n (same_bytes n)
   output_named false (output.Named n) own other = other n (same_bytes n)
+  output_named true (output.Terminal n) own other = own n (same_bytes n)
   output_named false (output.Terminal n) own other = other n (same_bytes n)
   output_named b output.Empty own other = tt
   output_named b output.Sink own other = tt
@@ -617,7 +677,8 @@ module _ (mine : List ℕ → Bool) (g : ℕ) where
 
   line_named : (step : Line) → ((name : List ℕ) → line_names (is_guest g) step name ≡ true → mine name ≡ true) → ((name : List ℕ) → line_names (is_other g) step name ≡ true → mine name ≡ false) → shares g step ≡ false → LineApart mine g step
   line_named (line.Guest k it) own other unshared = input_named (nat_eq k g) it own other unshared
-  line_named (line.Configure k it) own other unshared = setting_named (nat_eq k g) it own other
+  line_named (line.Context k id it) own other unshared = input_named (nat_eq k g) it own other unshared
+  line_named (line.Configure caller it) own other unshared = setting_named (nat_eq caller.guest g) it own other
   line_named step own other unshared = tt
 
   lines_named : (steps : List Line) → ((name : List ℕ) → names_by (is_guest g) steps name ≡ true → mine name ≡ true) → ((name : List ℕ) → names_by (is_other g) steps name ≡ true → mine name ≡ false) → list_any (shares g) steps ≡ false → LinesApart mine g steps
@@ -630,10 +691,12 @@ module _ (mine : List ℕ → Bool) (g : ℕ) where
   -- a line that the guest does not see names nothing of its own
   unseen_names : (step : Line) (name : List ℕ) → is_seen mine g step ≡ false → line_names (is_guest g) step name ≡ false
   unseen_names (line.Guest k it) name e = ap (λ b. b && input_names it name) e
-  unseen_names (line.Configure k it) name e = ap (λ b. b && setting_names it name) e
+  unseen_names (line.Context k id it) name e = ap (λ b. b && input_names it name) e
+  unseen_names (line.Capacity k capacity) name e = refl
+  unseen_names (line.Configure caller it) name e = ap (λ b. b && setting_names it name) e
   unseen_names (line.Input n it) name e = refl
   unseen_names (line.Output n it) name e = refl
-  unseen_names (line.Call k it) name e = refl
+  unseen_names (line.Call caller it) name e = refl
   unseen_names (line.Worker it) name e = refl
   unseen_names (line.Turn it) name e = refl
   unseen_names (line.Clock it) name e = refl

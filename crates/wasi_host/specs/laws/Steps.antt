@@ -2,7 +2,7 @@
 use Rattle.std.proofs.Common.{◌≡◌, ℕ, ◌+◌, ◌<◌, ◌≤◌, zero, suc, Bool, true, false, List, [], ◌∷◌, ◌++◌, length, get_or, set, drop, cond, Option, Some, None, refl, ap, arith, ◌∙◌, sym, subst, add-one, true≢false}
 use Rattle.std.specs.Str.{bytes_eq}
 use Rattle.std.specs.Map.{set_value}
-use Rattle.std.specs.Prelude.{MatchOption, is_some, ◌&&◌, ◌||◌, not, nat_eq, replicate}
+use Rattle.std.specs.Prelude.{MatchOption, is_some, nat_lt, ◌&&◌, ◌||◌, not, nat_eq, replicate}
 use Rattle.std.specs.Option.{option_map}
 use Rattle.std.proofs.lemmas.Bool.Decides.{nat_tests}
 use Rattle.std.proofs.Math.ListN.{length-set}
@@ -15,10 +15,7 @@ use Rattle.wasi_script.specs.declared.lines.Input.{Input}
 use Rattle.wasi_script.specs.declared.lines.Input.TheVariants as input
 use Rattle.wasi_script.specs.declared.lines.Output.{Output}
 use Rattle.wasi_script.specs.declared.lines.Output.TheVariants as output
-use Rattle.wasi_script.specs.declared.lines.Standard.{Standard}
 use Rattle.wasi_script.specs.declared.lines.Standard.TheVariants as standard
-use Rattle.wasi_script.specs.declared.lines.Setting.{Setting}
-use Rattle.wasi_script.specs.declared.lines.Setting.TheVariants as setting
 use Rattle.wasi_script.specs.declared.lines.EntryCall.{EntryCall}
 use Rattle.wasi_script.specs.declared.lines.EntryCall.TheVariants as ask
 use Rattle.wasi_script.specs.declared.lines.Call.{Call}
@@ -26,9 +23,10 @@ use Rattle.wasi_script.specs.declared.lines.Call.TheVariants as call
 use Rattle.wasi_script.specs.declared.lines.WorkerTurn.TheVariants as turn
 use Rattle.wasi_script.specs.declared.lines.StreamTask.{StreamTask}
 use Rattle.wasi_script.specs.declared.lines.StreamTask.TheVariants as task
+use Rattle.wasi_script.specs.declared.lines.Context.{Context}
 use Rattle.wasi_script.specs.declared.lines.Line.{Line}
 use Rattle.wasi_script.specs.declared.lines.Line.TheVariants as line
-use Rattle.wasi_script.specs.Grammar.{Names, AllStand, may_stand, may_declare, budget_stands, input_stands, names_after, no_names, setting_stands}
+use Rattle.wasi_script.specs.Grammar.{AllStand, may_stand, may_declare, may_set_up, context_stands, budget_stands, input_stands, names_after, no_names}
 use Rattle.wasi_script.specs.laws.Distinct.{is_new, first_is}
 use Rattle.wasi_reply.specs.declared.reply.Reply.{Reply}
 use Rattle.wasi_reply.specs.declared.reply.Reply.TheVariants as reply
@@ -39,14 +37,16 @@ use Rattle.wasi_host.specs.declared.entry.SharedEntry.TheVariants as on
 use Rattle.wasi_host.specs.declared.stream.InStream.{InStream}
 use Rattle.wasi_reply.specs.Reply.{ends}
 use Rattle.wasi_host.specs.declared.stream.OutStream.{OutStream}
+use Rattle.wasi_host.specs.Contexts.{ByContext, is_named, at_context}
 use Rattle.wasi_host.specs.Deeds.{entry_at}
 use Rattle.wasi_host.specs.Clocks.{Clocks}
 use Rattle.wasi_host.specs.Calls.{Owner, Settings, asked}
 use Rattle.wasi_host.specs.declared.leaver.Leaver.{Leaver}
 use Rattle.wasi_host.specs.declared.leaver.Leaver.TheVariants as leaver
-use Rattle.wasi_host.specs.Host.{Named, the_calls, the_rules, CallRules, Rules, Guest, Streams, configured, put_input, put_output, new_input, new_output, Host, IsStep, new_guest, answer_at, answer_to, answer_by, answer_in, answer, guest_of, was_called_in, names_in, reads_ahead_in, writes_behind_in, leave_input, leave_output, leave_entry, leave_all, names_of, after_task, host_after, step_reply, step_host, step_told, delivery_told, after_delivery, given_for, told_for, new_host}
+use Rattle.wasi_host.specs.Host.{Named, the_calls, the_rules, CallRules, Rules, Guest, Streams, new_settings, with_context, with_capacity, settings_set, configured, put_input, put_output, new_input, new_output, Host, IsStep, new_guest, answer_at, answer_to, answer_by, answer_in, answer, guest_of, was_called_in, has_context_in, names_in, leave_input, leave_output, leave_entry, leave_context, leave_each, leave_all, names_of, after_task, host_after, step_reply, step_host, step_told, delivery_told, after_delivery, given_for, told_for, new_host}
 use Rattle.wasi_host.specs.laws.Shown.{cond_same, get_set}
-use Rattle.wasi_host.specs.laws.Tasks.{call_kinds, turn_kinds, call_settings, NamesStand, GuestStands, GuestsStand, same_settings, stand_after, new_stands, configured_stands, readers_more, writers_more, processes_more}
+use Rattle.wasi_host.specs.laws.Contexts.{named_put, named_more}
+use Rattle.wasi_host.specs.laws.Tasks.{call_kinds, turn_kinds, call_settings, readers_more, writers_more, stdio_more}
 
 -- over a source that tells, a step is a function of what it tells
 pub record IsToldStep (u : Told) (after : Option Told) (old new : Host) (step : Line) (answer : Reply) : Type 0 where
@@ -92,17 +92,13 @@ changed_some : (change : Guest → Guest) (o : Option Guest) → is_some o ≡ i
 changed_some change None = refl
 changed_some change (Some guest) = refl
 
-configured_called : (it : Setting) (guest : Guest) → guest.was_called ≡ (configured it guest).was_called
-configured_called (setting.Capacity capacity) guest = refl
-configured_called other guest = refl
-
-changed_called : (it : Setting) (o : Option Guest) → was_called_in o ≡ was_called_in (option_map (configured it) o)
-changed_called it None = refl
-changed_called it (Some guest) = configured_called it guest
-
 pub first_of : (a b : Bool) → (a && b) ≡ true → a ≡ true
 first_of true b h = refl
 first_of false b h = absurd (cc)
+
+pub not_false : (b : Bool) → not b ≡ true → b ≡ false
+not_false true h = absurd (cc)
+not_false false h = refl
 
 pub second_of : (a b : Bool) → (a && b) ≡ true → b ≡ true
 second_of true b h = h
@@ -145,117 +141,184 @@ put_output_names other it streams = record { inputs = refl; outputs = refl }
 trans_names : (three two one : Streams) → SameNames three two → SameNames two one → SameNames three one
 trans_names three two one b a = record { inputs = b.inputs ∙ a.inputs; outputs = b.outputs ∙ a.outputs }
 
-entry_names : (who : Leaver) (o : Option Entry) (settings : Settings) (streams : Streams) → SameNames (leave_entry who o settings streams) streams
+entry_names : (who : Leaver) (o : Option Entry) (settings : ByContext Settings) (streams : Streams) → SameNames (leave_entry who o settings streams) streams
 entry_names who None settings streams = record { inputs = refl; outputs = refl }
 entry_names who (Some (entry.Shared e)) settings streams = record { inputs = refl; outputs = refl }
 entry_names who (Some (entry.Own e)) settings streams = record { inputs = refl; outputs = refl }
-entry_names who (Some (entry.Stream standard.Input e)) settings streams = put_input_names settings.input _ streams
-entry_names who (Some (entry.Stream standard.Output e)) settings streams = put_output_names settings.stdout _ streams
-entry_names who (Some (entry.Stream standard.Error e)) settings streams = put_output_names settings.stderr _ streams
+entry_names who (Some (entry.Stream of standard.Input e)) settings streams = put_input_names (at_context of settings).input _ streams
+entry_names who (Some (entry.Stream of standard.Output e)) settings streams = put_output_names (at_context of settings).stdout _ streams
+entry_names who (Some (entry.Stream of standard.Error e)) settings streams = put_output_names (at_context of settings).stderr _ streams
 
-left_names : (b : Bool) (who : Leaver) (settings : Settings) (streams : Streams) → SameNames (cond b (leave_all who settings streams) streams) streams
-left_names true who settings streams =
+context_names : (who : Leaver) (settings : Settings) (streams : Streams) → SameNames (leave_context who settings streams) streams
+context_names who settings streams =
     let one = leave_input who settings.input streams in
     let two = leave_output who settings.stdout one in
     trans_names (leave_output who settings.stderr two) two streams (put_output_names settings.stderr _ two) (trans_names two one streams (put_output_names settings.stdout _ one) (put_input_names settings.input _ streams))
+
+each_names : (who : Leaver) (rows : List (ℕ × Settings)) (streams : Streams) → SameNames (leave_each who rows streams) streams
+each_names who [] streams = record { inputs = refl; outputs = refl }
+each_names who (row ∷ rows) streams = let left = leave_context who row.1 streams in trans_names (leave_each who rows left) left streams (each_names who rows left) (context_names who row.1 streams)
+
+left_names : (b : Bool) (who : Leaver) (settings : ByContext Settings) (streams : Streams) → SameNames (cond b (leave_all who settings streams) streams) streams
+left_names true who settings streams = let left = leave_context who settings.main streams in trans_names (leave_each who settings.named left) left streams (each_names who settings.named left) (context_names who settings.main streams)
 left_names false who settings streams = record { inputs = refl; outputs = refl }
 
 at_names : (rules : CallRules) (it : EntryCall) (at : Owner) (o : Option Entry) (guest : Guest) (s : Shared) (streams : Streams) → SameNames (answer_at rules it at o guest s streams).streams streams
 at_names rules it at None guest s streams = record { inputs = refl; outputs = refl }
 at_names rules it at (Some (entry.Shared e)) guest s streams = record { inputs = refl; outputs = refl }
-at_names rules it at (Some (entry.Stream standard.Input e)) guest s streams = put_input_names guest.settings.input _ streams
-at_names rules it at (Some (entry.Stream standard.Output e)) guest s streams = put_output_names guest.settings.stdout _ streams
-at_names rules it at (Some (entry.Stream standard.Error e)) guest s streams = put_output_names guest.settings.stderr _ streams
+at_names rules it at (Some (entry.Stream of standard.Input e)) guest s streams = put_input_names (at_context of guest.settings).input _ streams
+at_names rules it at (Some (entry.Stream of standard.Output e)) guest s streams = put_output_names (at_context of guest.settings).stdout _ streams
+at_names rules it at (Some (entry.Stream of standard.Error e)) guest s streams = put_output_names (at_context of guest.settings).stderr _ streams
 at_names rules it at (Some (entry.Own e)) guest s streams = record { inputs = refl; outputs = refl }
 
-to_names : (rules : CallRules) (c : Call) (g : ℕ) (guest : Guest) (s : Shared) (streams : Streams) → SameNames (answer_to rules c g guest s streams).streams streams
-to_names rules (call.On n it) g guest s streams = at_names rules it (record { guest = g; number = n }) (entry_at guest.own n) guest s streams
-to_names rules (call.Drop n) g guest s streams = entry_names (leaver.Entry (record { guest = g; number = n })) (entry_at guest.own n) guest.settings streams
-to_names rules other g guest s streams = record { inputs = refl; outputs = refl }
+to_names : (rules : CallRules) (c : Call) (g : ℕ) (of : Option ℕ) (guest : Guest) (s : Shared) (streams : Streams) → SameNames (answer_to rules c g of guest s streams).streams streams
+to_names rules (call.On n it) g of guest s streams = at_names rules it (record { guest = g; number = n }) (entry_at guest.own n) guest s streams
+to_names rules (call.Drop n) g of guest s streams = entry_names (leaver.Entry (record { guest = g; number = n })) (entry_at guest.own n) guest.settings streams
+to_names rules other g of guest s streams = record { inputs = refl; outputs = refl }
 
-by_names : (rules : CallRules) (b : Bool) (c : Call) (g : ℕ) (guest : Guest) (s : Shared) (streams : Streams) → SameNames (answer_by b rules c g guest s streams).streams streams
-by_names rules true c g guest s streams = record { inputs = refl; outputs = refl }
-by_names rules false c g guest s streams = let done = answer_to rules c g guest s streams in trans_names _ done.streams streams (left_names (ends done.reply) (leaver.Guest g) guest.settings done.streams) (to_names rules c g guest s streams)
+by_names : (rules : CallRules) (b : Bool) (c : Call) (g : ℕ) (of : Option ℕ) (guest : Guest) (s : Shared) (streams : Streams) → SameNames (answer_by b rules c g of guest s streams).streams streams
+by_names rules true c g of guest s streams = record { inputs = refl; outputs = refl }
+by_names rules false c g of guest s streams = let done = answer_to rules c g of guest s streams in trans_names _ done.streams streams (left_names (ends done.reply) (leaver.Guest g) guest.settings done.streams) (to_names rules c g of guest s streams)
 
-pub answered_names : (rules : CallRules) (c : Call) (g : ℕ) (o : Option Guest) (s : Shared) (streams : Streams) → SameNames (answer_in rules c g o s streams).streams streams
-answered_names rules c g None s streams = record { inputs = refl; outputs = refl }
-answered_names rules c g (Some guest) s streams = by_names rules guest.ended c g guest s streams
+pub answered_names : (rules : CallRules) (c : Call) (caller : Context) (o : Option Guest) (s : Shared) (streams : Streams) → SameNames (answer_in rules c caller o s streams).streams streams
+answered_names rules c caller None s streams = record { inputs = refl; outputs = refl }
+answered_names rules c caller (Some guest) s streams = by_names rules guest.ended c caller.guest caller.named guest s streams
 
 at_called : (rules : CallRules) (it : EntryCall) (at : Owner) (o : Option Entry) (guest : Guest) (s : Shared) (streams : Streams) → (answer_at rules it at o guest s streams).guest.was_called ≡ true
 at_called rules it at None guest s streams = refl
 at_called rules it at (Some (entry.Shared e)) guest s streams = refl
-at_called rules it at (Some (entry.Stream standard.Input e)) guest s streams = refl
-at_called rules it at (Some (entry.Stream standard.Output e)) guest s streams = refl
-at_called rules it at (Some (entry.Stream standard.Error e)) guest s streams = refl
+at_called rules it at (Some (entry.Stream of standard.Input e)) guest s streams = refl
+at_called rules it at (Some (entry.Stream of standard.Output e)) guest s streams = refl
+at_called rules it at (Some (entry.Stream of standard.Error e)) guest s streams = refl
 at_called rules it at (Some (entry.Own e)) guest s streams = refl
 
-to_called : (rules : CallRules) (c : Call) (g : ℕ) (guest : Guest) (s : Shared) (streams : Streams) → (answer_to rules c g guest s streams).guest.was_called ≡ true
-to_called rules (call.On n it) g guest s streams = at_called rules it (record { guest = g; number = n }) (entry_at guest.own n) guest s streams
-to_called rules (call.Open it how) g guest s streams = refl
-to_called rules (call.Terminal it) g guest s streams = refl
-to_called rules (call.Drop n) g guest s streams = refl
-to_called rules (call.Own it) g guest s streams = refl
-to_called rules (call.Random it) g guest s streams = refl
+to_called : (rules : CallRules) (c : Call) (g : ℕ) (of : Option ℕ) (guest : Guest) (s : Shared) (streams : Streams) → (answer_to rules c g of guest s streams).guest.was_called ≡ true
+to_called rules (call.On n it) g of guest s streams = at_called rules it (record { guest = g; number = n }) (entry_at guest.own n) guest s streams
+to_called rules (call.Open it how) g of guest s streams = refl
+to_called rules (call.Drop n) g of guest s streams = refl
+to_called rules (call.Terminal it) g of guest s streams = refl
+to_called rules (call.Own it) g of guest s streams = refl
+to_called rules (call.Random it) g of guest s streams = refl
 
-by_called : (rules : CallRules) (b : Bool) (c : Call) (g : ℕ) (guest : Guest) (s : Shared) (streams : Streams) → (answer_by b rules c g guest s streams).guest.was_called ≡ true
-by_called rules true c g guest s streams = refl
-by_called rules false c g guest s streams = to_called rules c g guest s streams
+by_called : (rules : CallRules) (b : Bool) (c : Call) (g : ℕ) (of : Option ℕ) (guest : Guest) (s : Shared) (streams : Streams) → (answer_by b rules c g of guest s streams).guest.was_called ≡ true
+by_called rules true c g of guest s streams = refl
+by_called rules false c g of guest s streams = to_called rules c g of guest s streams
 
-called_now : (rules : CallRules) (c : Call) (g : ℕ) (o : Option Guest) (s : Shared) (streams : Streams) → is_some o ≡ true → (answer_in rules c g o s streams).guest.was_called ≡ true
-called_now rules c g None s streams h = absurd (cc)
-called_now rules c g (Some guest) s streams h = by_called rules guest.ended c g guest s streams
+called_now : (rules : CallRules) (c : Call) (caller : Context) (o : Option Guest) (s : Shared) (streams : Streams) → is_some o ≡ true → (answer_in rules c caller o s streams).guest.was_called ≡ true
+called_now rules c caller None s streams h = absurd (cc)
+called_now rules c caller (Some guest) s streams h = by_called rules guest.ended c caller.guest caller.named guest s streams
 
 task_names : (rules : Rules) (it : StreamTask) (streams : Streams) → SameNames (after_task rules it streams) streams
 task_names rules (task.Reader name) streams = put_input_names (input.Named name) _ streams
 task_names rules (task.Writer name) streams = put_output_names (output.Named name) _ streams
 
+-- a guest of which a line says more, or that calls
+more_called : (change : Guest → Guest) → ((guest : Guest) → (change guest).was_called ≡ guest.was_called) → (o : Option Guest) → was_called_in o ≡ was_called_in (option_map change o)
+more_called change keeps None = refl
+more_called change keeps (Some guest) = sym (keeps guest)
+
+-- .. has the contexts that it had
+more_contexts : (change : Guest → Guest) → ((guest : Guest) (id : ℕ) → is_named id (change guest).settings ≡ is_named id guest.settings) → (id : ℕ) (o : Option Guest) → has_context_in (Some id) o ≡ has_context_in (Some id) (option_map change o)
+more_contexts change keeps id None = refl
+more_contexts change keeps id (Some guest) = sym (keeps guest id)
+
+called_contexts : (rules : CallRules) (c : Call) (caller : Context) (o : Option Guest) (s : Shared) (streams : Streams) → is_some o ≡ true → (id : ℕ) → has_context_in (Some id) o ≡ is_named id (answer_in rules c caller o s streams).guest.settings
+called_contexts rules c caller None s streams h id = absurd (cc)
+called_contexts rules c caller (Some guest) s streams h id = ap (is_named id) (sym (call_settings rules guest.ended c caller.guest caller.named guest s streams))
+
+no_contexts : (o : Option Guest) → is_some o ≡ false → (id : ℕ) → has_context_in (Some id) o ≡ false
+no_contexts None h id = refl
+no_contexts (Some guest) h id = absurd (cc)
+
+-- a named context more
+one_more : (n id : ℕ) (reads : Input) (o : Option Guest) → has_context_in (Some id) o ≡ false → is_some o ≡ true → (other : ℕ) → has_context_in (Some other) (option_map (with_context id reads) o) ≡ cond (nat_eq other id) true (has_context_in (Some other) o)
+one_more n id reads None new there other = absurd (cc)
+one_more n id reads (Some guest) new there other = named_more guest.settings id (new_settings reads) new other
+
+also_one : (a b here there : Bool) → cond a (cond b true here) there ≡ cond (a && b) true (cond a here there)
+also_one true true here there = refl
+also_one true false here there = refl
+also_one false b here there = refl
+
 -- what a step declares, and whose call it is
-pub names_step : (step : Line) (old : Host) (g : Given) → length old.guests ≡ 64 → GuestsStand old → may_stand (names_of old) step ≡ true → names_of (host_after step old g) ≡ names_after (names_of old) step
-names_step (line.Input name it) old g len guests h =
+pub names_step : (step : Line) (old : Host) (g : Given) → length old.guests ≡ 64 → may_stand (names_of old) step ≡ true → names_of (host_after step old g) ≡ names_after (names_of old) step
+names_step (line.Input name it) old g len h =
     let new = is_new _ _ _ h in
     λ i. record (names_of old) {
       inputs = more_names old.streams.inputs name (new_input it) i;
       reads_ahead = λ other. readers_more old.streams.inputs name it new.0 other i;
     }
-names_step (line.Output name it) old g len guests h =
+names_step (line.Output name it) old g len h =
     let new = is_new _ _ _ (first_is (may_declare (names_of old) name) (budget_stands it) h) in
     λ i. record (names_of old) {
       outputs = more_names old.streams.outputs name (new_output it) i;
       writes_behind = λ other. writers_more old.streams.outputs name it new.1 other i;
-      has_stdio = λ other. processes_more old.streams.outputs name it new.1 other i;
+      has_stdio = λ other. stdio_more old.streams.outputs name it new.1 other i;
     }
-names_step (line.Guest n reads) old g len guests h =
+names_step (line.Guest n reads) old g len h =
     let lt : n < length old.guests = rw len (grind (arith, nat_tests, h)) in
     let new : is_some (get_or old.guests n None) ≡ false = grind (arith, nat_tests, h) in
     λ i. record (names_of old) {
       is_guest = λ m. told_at is_some old.guests n m (Some (new_guest reads)) lt i;
       was_called = λ m. told_same was_called_in old.guests n m (Some (new_guest reads)) lt (none_called (get_or old.guests n None) new) i;
+      is_context = λ m id. told_same (has_context_in (Some id)) old.guests n m (Some (new_guest reads)) lt (no_contexts (get_or old.guests n None) new id) i;
     }
-names_step (line.Configure n it) old g len guests h =
-    let there : is_some (guest_of old n) ≡ true = first_of _ _ (first_of _ (setting_stands (names_of old) it) h) in
+names_step (line.Context n id reads) old g len h =
+    let more = second_of (may_set_up (names_of old) n) _ h in
+    let there : is_some (guest_of old n) ≡ true = first_of _ _ (first_of (may_set_up (names_of old) n) _ h) in
+    let new : has_context_in (Some id) (guest_of old n) ≡ false = not_false _ (first_of _ (input_stands (names_of old) reads) (second_of (nat_lt id 16) _ more)) in
     let lt : n < length old.guests = within old.guests n there in
-    let changed : Option Guest = option_map (configured it) (get_or old.guests n None) in
+    let change = with_context id reads in
+    let changed : Option Guest = option_map change (get_or old.guests n None) in
     λ i. record (names_of old) {
-      is_guest = λ m. told_same is_some old.guests n m changed lt (changed_some (configured it) (get_or old.guests n None)) i;
-      was_called = λ m. told_same was_called_in old.guests n m changed lt (changed_called it (get_or old.guests n None)) i;
+      is_guest = λ m. told_same is_some old.guests n m changed lt (changed_some change (get_or old.guests n None)) i;
+      was_called = λ m. told_same was_called_in old.guests n m changed lt (more_called change (λ guest. refl) (get_or old.guests n None)) i;
+      is_context = λ m other. (told_at (has_context_in (Some other)) old.guests n m changed lt
+          ∙ ap (λ b. cond (nat_eq m n) b (has_context_in (Some other) (get_or old.guests m None))) (one_more n id reads (get_or old.guests n None) new there other)
+          ∙ also_one (nat_eq m n) (nat_eq other id) (has_context_in (Some other) (get_or old.guests n None)) (has_context_in (Some other) (get_or old.guests m None))
+          ∙ ap (λ b. cond (nat_eq m n && nat_eq other id) true b) (cond_same (λ m. has_context_in (Some other) (get_or old.guests m None)) m n (has_context_in (Some other) (get_or old.guests n None)) refl)) i;
     }
-names_step (line.Call n c) old g len guests h =
-    let lt : n < length old.guests = within old.guests n h in
-    let guest : Guest = (answer (the_calls old.clocks) c n old).guest in
-    let names = answered_names (the_calls old.clocks) c n (guest_of old n) old.shared old.streams in
-    let kinds = call_kinds old.clocks c n (guest_of old n) old.shared old.streams in
+names_step (line.Capacity n capacity) old g len h =
+    let there : is_some (guest_of old n) ≡ true = first_of _ _ (first_of (may_set_up (names_of old) n) _ h) in
+    let lt : n < length old.guests = within old.guests n there in
+    let change = with_capacity capacity in
+    let changed : Option Guest = option_map change (get_or old.guests n None) in
+    λ i. record (names_of old) {
+      is_guest = λ m. told_same is_some old.guests n m changed lt (changed_some change (get_or old.guests n None)) i;
+      was_called = λ m. told_same was_called_in old.guests n m changed lt (more_called change (λ guest. refl) (get_or old.guests n None)) i;
+      is_context = λ m id. told_same (has_context_in (Some id)) old.guests n m changed lt (more_contexts change (λ guest id. refl) id (get_or old.guests n None)) i;
+    }
+names_step (line.Configure caller it) old g len h =
+    let n = caller.guest in
+    let there : is_some (guest_of old n) ≡ true = first_of _ _ (first_of (may_set_up (names_of old) n) _ h) in
+    let lt : n < length old.guests = within old.guests n there in
+    let change = configured it caller.named in
+    let changed : Option Guest = option_map change (get_or old.guests n None) in
+    λ i. record (names_of old) {
+      is_guest = λ m. told_same is_some old.guests n m changed lt (changed_some change (get_or old.guests n None)) i;
+      was_called = λ m. told_same was_called_in old.guests n m changed lt (more_called change (λ guest. refl) (get_or old.guests n None)) i;
+      is_context = λ m id. told_same (has_context_in (Some id)) old.guests n m changed lt (more_contexts change (λ guest id. named_put caller.named (settings_set it (at_context caller.named guest.settings)) guest.settings id) id (get_or old.guests n None)) i;
+    }
+names_step (line.Call caller c) old g len h =
+    let n = caller.guest in
+    let there : is_some (guest_of old n) ≡ true = first_of _ (context_stands (names_of old) caller) h in
+    let lt : n < length old.guests = within old.guests n there in
+    let guest : Guest = (answer (the_calls old.clocks) c caller old).guest in
+    let names = answered_names (the_calls old.clocks) c caller (guest_of old n) old.shared old.streams in
+    let kinds = call_kinds old.clocks c caller (guest_of old n) old.shared old.streams in
     λ i. record {
-      is_guest = λ m. told_same is_some old.guests n m (Some guest) lt h i;
-      was_called = λ m. (told_at was_called_in old.guests n m (Some guest) lt ∙ ap (λ b. cond (nat_eq m n) b (was_called_in (get_or old.guests m None))) (called_now (the_calls old.clocks) c n (guest_of old n) old.shared old.streams h)) i;
+      is_guest = λ m. told_same is_some old.guests n m (Some guest) lt there i;
+      was_called = λ m. (told_at was_called_in old.guests n m (Some guest) lt ∙ ap (λ b. cond (nat_eq m n) b (was_called_in (get_or old.guests m None))) (called_now (the_calls old.clocks) c caller (guest_of old n) old.shared old.streams there)) i;
+      is_context = λ m id. told_same (has_context_in (Some id)) old.guests n m (Some guest) lt (called_contexts (the_calls old.clocks) c caller (guest_of old n) old.shared old.streams there id) i;
       inputs = names.inputs i;
       outputs = names.outputs i;
       reads_ahead = λ name. kinds.reads name i;
       writes_behind = λ name. kinds.writes name i;
-      has_stdio = λ name. kinds.processes name i;
+      has_stdio = λ name. kinds.stdio name i;
     }
-names_step (line.Worker it) old g len guests h = refl
-names_step (line.Clock it) old g len guests h = refl
-names_step (line.Turn it) old g len guests h =
+names_step (line.Worker it) old g len h = refl
+names_step (line.Clock it) old g len h = refl
+names_step (line.Turn it) old g len h =
     let names = task_names the_rules it old.streams in
     let kinds = turn_kinds it old.streams in
     λ i. record (names_of old) {
@@ -263,39 +326,8 @@ names_step (line.Turn it) old g len guests h =
       outputs = names.outputs i;
       reads_ahead = λ name. kinds.reads name i;
       writes_behind = λ name. kinds.writes name i;
-      has_stdio = λ name. kinds.processes name i;
+      has_stdio = λ name. kinds.stdio name i;
     }
-
--- what guests name stays declared
-put_stands : (names : Names) (xs : List (Option Guest)) (n : ℕ) (x : Option Guest) → n < length xs → ((m : ℕ) → GuestStands names (get_or xs m None)) → GuestStands names x → (m : ℕ) → GuestStands names (get_or (set xs n x) m None)
-put_stands names xs n x lt all new m = subst (GuestStands names) (sym (get_set xs n m x None lt)) (by (nat_eq m n))
-  where
-    by : (b : Bool) → GuestStands names (cond b x (get_or xs m None))
-    by true = new
-    by false = all m
-
-called_stands : (names : Names) (rules : CallRules) (c : Call) (g : ℕ) (o : Option Guest) (s : Shared) (streams : Streams) → is_some o ≡ true → GuestStands names o → NamesStand names (answer_in rules c g o s streams).guest
-called_stands names rules c g None s streams there stand = absurd (cc)
-called_stands names rules c g (Some guest) s streams there stand = same_settings names (answer_in rules c g (Some guest) s streams).guest guest (call_settings rules guest.ended c g guest s streams) stand
-
-guests_after : (step : Line) (old : Host) (g : Given) → length old.guests ≡ 64 → GuestsStand old → may_stand (names_of old) step ≡ true → (m : ℕ) → GuestStands (names_after (names_of old) step) (guest_of (host_after step old g) m)
-guests_after (line.Guest n reads) old g len guests h m =
-    let lt : n < length old.guests = rw len (grind (arith, nat_tests, h)) in
-    let names = names_of old in
-    let stands = second_of _ (input_stands names reads) (second_of _ (not (names.is_guest n) && input_stands names reads) h) in
-    put_stands (names_after names (line.Guest n reads)) old.guests n (Some (new_guest reads)) lt (λ m. stand_after names (line.Guest n reads) (guest_of old m) (guests m)) (new_stands names (line.Guest n reads) reads stands) m
-guests_after (line.Configure n it) old g len guests h m =
-    let names = names_of old in
-    let there : is_some (guest_of old n) ≡ true = first_of _ _ (first_of _ (setting_stands names it) h) in
-    put_stands (names_after names (line.Configure n it)) old.guests n (option_map (configured it) (guest_of old n)) (within old.guests n there) (λ m. stand_after names (line.Configure n it) (guest_of old m) (guests m)) (configured_stands names (line.Configure n it) it (guest_of old n) (second_of _ (setting_stands names it) h) (guests n)) m
-guests_after (line.Call n c) old g len guests h m =
-    let names = names_of old in
-    let there : is_some (guest_of old n) ≡ true = h in
-    put_stands (names_after names (line.Call n c)) old.guests n (Some (answer (the_calls old.clocks) c n old).guest) (within old.guests n there) (λ m. stand_after names (line.Call n c) (guest_of old m) (guests m)) (called_stands (names_after names (line.Call n c)) (the_calls old.clocks) c n (guest_of old n) old.shared old.streams there (stand_after names (line.Call n c) (guest_of old n) (guests n))) m
-guests_after step old g len guests h m = stand_after (names_of old) step (guest_of old m) (guests m)
-
-pub guests_step : (step : Line) (old : Host) (g : Given) → length old.guests ≡ 64 → GuestsStand old → may_stand (names_of old) step ≡ true → GuestsStand (host_after step old g)
-guests_step step old g len guests h m = subst (λ names. GuestStands names (guest_of (host_after step old g) m)) (sym (names_step step old g len guests h)) (guests_after step old g len guests h m)
 
 -- nobody is declared at first
 none_at : (f : Option Guest → Bool) → f None ≡ false → (count n : ℕ) → let none : Option Guest = None in f (get_or (replicate count None) n none) ≡ false
@@ -304,21 +336,15 @@ none_at f none (suc count) zero = none
 none_at f none (suc count) (suc n) = none_at f none count n
 
 pub names_new : names_of new_host ≡ no_names
-names_new = λ i. record (names_of new_host) { is_guest = λ n. none_at is_some refl 64 n i; was_called = λ n. none_at was_called_in refl 64 n i }
-
-pub guests_new : GuestsStand new_host
-guests_new = none_stand (names_of new_host) 64
-  where
-    none_stand : (names : Names) (count n : ℕ) → let none : Option Guest = None in GuestStands names (get_or (replicate count none) n none)
-    none_stand names zero n = tt
-    none_stand names (suc count) zero = tt
-    none_stand names (suc count) (suc n) = none_stand names count n
+names_new = λ i. record (names_of new_host) { is_guest = λ n. none_at is_some refl 64 n i; was_called = λ n. none_at was_called_in refl 64 n i; is_context = λ n id. none_at (has_context_in (Some id)) refl 64 n i }
 
 -- no step makes or drops a place for a guest
 pub places_step : (step : Line) (old : Host) (g : Given) → length (host_after step old g).guests ≡ length old.guests
 places_step (line.Guest n reads) old g = length-set old.guests n (Some (new_guest reads))
-places_step (line.Configure n it) old g = length-set old.guests n (option_map (configured it) (guest_of old n))
-places_step (line.Call n c) old g = length-set old.guests n (Some (answer (the_calls old.clocks) c n old).guest)
+places_step (line.Context n id reads) old g = length-set old.guests n (option_map (with_context id reads) (guest_of old n))
+places_step (line.Capacity n capacity) old g = length-set old.guests n (option_map (with_capacity capacity) (guest_of old n))
+places_step (line.Configure caller it) old g = length-set old.guests caller.guest (option_map (configured it caller.named) (guest_of old caller.guest))
+places_step (line.Call caller c) old g = length-set old.guests caller.guest (Some (answer (the_calls old.clocks) c caller old).guest)
 places_step other old g = refl
 
 -- ---- no call makes a delivery
@@ -350,22 +376,22 @@ asked_count other at (on.Pollable wait) s = refl
 at_count : (clocks : Clocks) (it : EntryCall) (at : Owner) (o : Option Entry) (guest : Guest) (s : Shared) (streams : Streams) → (answer_at (the_calls clocks) it at o guest s streams).shared.deliveries ≡ s.deliveries
 at_count clocks it at None guest s streams = refl
 at_count clocks it at (Some (entry.Shared e)) guest s streams = asked_count it at e s
-at_count clocks it at (Some (entry.Stream standard.Input e)) guest s streams = refl
-at_count clocks it at (Some (entry.Stream standard.Output e)) guest s streams = refl
-at_count clocks it at (Some (entry.Stream standard.Error e)) guest s streams = refl
+at_count clocks it at (Some (entry.Stream of standard.Input e)) guest s streams = refl
+at_count clocks it at (Some (entry.Stream of standard.Output e)) guest s streams = refl
+at_count clocks it at (Some (entry.Stream of standard.Error e)) guest s streams = refl
 at_count clocks it at (Some (entry.Own e)) guest s streams = refl
 
-to_count : (clocks : Clocks) (c : Call) (g : ℕ) (guest : Guest) (s : Shared) (streams : Streams) → (answer_to (the_calls clocks) c g guest s streams).shared.deliveries ≡ s.deliveries
-to_count clocks (call.On n it) g guest s streams = at_count clocks it (record { guest = g; number = n }) (entry_at guest.own n) guest s streams
-to_count clocks other g guest s streams = refl
+to_count : (clocks : Clocks) (c : Call) (g : ℕ) (of : Option ℕ) (guest : Guest) (s : Shared) (streams : Streams) → (answer_to (the_calls clocks) c g of guest s streams).shared.deliveries ≡ s.deliveries
+to_count clocks (call.On n it) g of guest s streams = at_count clocks it (record { guest = g; number = n }) (entry_at guest.own n) guest s streams
+to_count clocks other g of guest s streams = refl
 
-by_count : (clocks : Clocks) (b : Bool) (c : Call) (g : ℕ) (guest : Guest) (s : Shared) (streams : Streams) → (answer_by b (the_calls clocks) c g guest s streams).shared.deliveries ≡ s.deliveries
-by_count clocks true c g guest s streams = refl
-by_count clocks false c g guest s streams = to_count clocks c g guest s streams
+by_count : (clocks : Clocks) (b : Bool) (c : Call) (g : ℕ) (of : Option ℕ) (guest : Guest) (s : Shared) (streams : Streams) → (answer_by b (the_calls clocks) c g of guest s streams).shared.deliveries ≡ s.deliveries
+by_count clocks true c g of guest s streams = refl
+by_count clocks false c g of guest s streams = to_count clocks c g of guest s streams
 
-called_count : (clocks : Clocks) (c : Call) (g : ℕ) (o : Option Guest) (s : Shared) (streams : Streams) → (answer_in (the_calls clocks) c g o s streams).shared.deliveries ≡ s.deliveries
-called_count clocks c g None s streams = refl
-called_count clocks c g (Some guest) s streams = by_count clocks guest.ended c g guest s streams
+called_count : (clocks : Clocks) (c : Call) (caller : Context) (o : Option Guest) (s : Shared) (streams : Streams) → (answer_in (the_calls clocks) c caller o s streams).shared.deliveries ≡ s.deliveries
+called_count clocks c caller None s streams = refl
+called_count clocks c caller (Some guest) s streams = by_count clocks guest.ended c caller.guest caller.named guest s streams
 
 captured_count : (c : Option ℕ) (s : Shared) → (captured_by c s).deliveries ≡ s.deliveries
 captured_count None s = refl
@@ -376,7 +402,7 @@ delivery_count None s g = omega arith
 delivery_count (Some n) s g = omega arith
 
 pub count_step : (step : Line) (old : Host) (g : Given) → (host_after step old g).shared.deliveries ≤ old.shared.deliveries + 1
-count_step (line.Call n c) old g = omega (arith, called_count old.clocks c n (guest_of old n) old.shared old.streams)
+count_step (line.Call caller c) old g = omega (arith, called_count old.clocks c caller (guest_of old caller.guest) old.shared old.streams)
 count_step (line.Worker turn.Capture) old g = omega (arith, captured_count (capture_of old.shared) old.shared)
 count_step (line.Worker turn.Deliver) old g = delivery_count old.shared.captured old.shared g
 count_step other old g = omega arith
@@ -384,7 +410,7 @@ count_step other old g = omega arith
 pub next_step : (steps : List Line) (i : ℕ) (step : Line) → i < length steps → get_or steps i step ≡ step → drop i steps ≡ step ∷ drop (i + 1) steps
 next_step steps i step h is = rw (add-one) (drop-cons steps i step h ∙ ap (λ step. step ∷ drop (suc i) steps) is)
 
-pub stand_on : (old new : Host) (g : Given) (steps : List Line) (i : ℕ) (step : Line) → i < length steps → get_or steps i step ≡ step → length old.guests ≡ 64 → GuestsStand old → AllStand (names_of old) (drop i steps) → new ≡ host_after step old g → AllStand (names_of new) (drop (i + 1) steps) × GuestsStand new
-stand_on old new g steps i step lt at places guests stand is =
+pub stand_on : (old new : Host) (g : Given) (steps : List Line) (i : ℕ) (step : Line) → i < length steps → get_or steps i step ≡ step → length old.guests ≡ 64 → AllStand (names_of old) (drop i steps) → new ≡ host_after step old g → AllStand (names_of new) (drop (i + 1) steps)
+stand_on old new g steps i step lt at places stand is =
     let both : AllStand (names_of old) (step ∷ drop (i + 1) steps) = subst (λ rest. AllStand (names_of old) rest) (next_step steps i step lt at) stand in
-    (rw (is, names_step step old g places guests both.0) both.1, rw is (guests_step step old g places guests both.0))
+    rw (is, names_step step old g places both.0) both.1

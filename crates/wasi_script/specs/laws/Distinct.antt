@@ -26,6 +26,11 @@ pub first_is : (first second : Bool) → (first && second) ≡ true → first �
 first_is true second is = refl
 first_is false second is = absurd (cc)
 
+-- .. and the second
+pub second_is : (first second : Bool) → (first && second) ≡ true → second ≡ true
+second_is true second is = is
+second_is false second is = absurd (cc)
+
 -- what the test of a declaration says of its name
 pub is_new : (few inputs outputs : Bool) → (few && (not inputs && not outputs)) ≡ true → (inputs ≡ false) × (outputs ≡ false)
 is_new true false false is = (refl, refl)
@@ -70,8 +75,10 @@ distinct_after names (line.Output name it) stands distinct =
       apart = λ other is. not_last other name names.inputs names.outputs is new.0 (distinct.apart other is);
     }
 distinct_after names (line.Guest guest it) stands distinct = record { inputs = distinct.inputs; outputs = distinct.outputs; apart = distinct.apart }
-distinct_after names (line.Configure guest it) stands distinct = record { inputs = distinct.inputs; outputs = distinct.outputs; apart = distinct.apart }
-distinct_after names (line.Call guest it) stands distinct = record { inputs = distinct.inputs; outputs = distinct.outputs; apart = distinct.apart }
+distinct_after names (line.Context guest id it) stands distinct = record { inputs = distinct.inputs; outputs = distinct.outputs; apart = distinct.apart }
+distinct_after names (line.Capacity guest capacity) stands distinct = distinct
+distinct_after names (line.Configure context it) stands distinct = record { inputs = distinct.inputs; outputs = distinct.outputs; apart = distinct.apart }
+distinct_after names (line.Call context it) stands distinct = record { inputs = distinct.inputs; outputs = distinct.outputs; apart = distinct.apart }
 distinct_after names (line.Worker it) stands distinct = distinct
 distinct_after names (line.Turn it) stands distinct = distinct
 distinct_after names (line.Clock it) stands distinct = distinct

@@ -22,7 +22,7 @@ returns-clause-left c =
     let whole : Named InStream → Streams = λ named. record { inputs = named; outputs = rows_of c.self.inside.outputs.entries } in
     elim c.match-get_mut.branch [
       | in-Some w ↦
-          rw (w.result-is, w.self-inside-is, ← c.self.view_is) (left_there whole in_stream.Closed w.called.result c.self.inside.inputs.entries _ c.args.name.now w.in-Some.stream.now w.called.new.stream (λ it. (called c.args.call.now c.args.at c.args.entry it).left) (rw w.in-Some.is at c.get_mut.ensures.value) (c.get_mut.follows.holds w.called.new.stream).0 w.called.ensures.left)
+          rw (w.result-is, w.self-inside-is, ← c.self.view_is) (left_there whole in_stream.Closed w.called.result c.self.inside.inputs.entries _ c.args.name.now w.in-Some.stream.now w.called.new.stream (λ it. (called c.args.call.now c.args.context c.args.at c.args.entry it).left) (rw w.in-Some.is at c.get_mut.ensures.value) (c.get_mut.follows.holds w.called.new.stream).0 w.called.ensures.left)
       | in-None w ↦
           rw (w.result-is, w.self-inside-is, ← c.self.view_is) (left_none whole in_stream.Closed w.called_closed.result c.self.inside.inputs.entries _ c.args.name.now _ (rw w.in-None.is at c.get_mut.ensures.value) (ap (λ rows. rows.entries) c.get_mut.follows.holds-at-none))
     ]
