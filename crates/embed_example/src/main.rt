@@ -6,8 +6,14 @@ use anyhow::{Result, bail};
 use std::str::from_utf8;
 use wasi_base::MemSource;
 use wasi_reply::{Piece, Reply, Told, push_line};
-use wasi_script::{Call, EntryCall, Line, Refusal, WorkerTurn};
+use wasi_script::{Call, Context, EntryCall, Line, Refusal, WorkerTurn};
 use wasi_session::Session;
+
+/// The main context of guest 0.
+const MAIN: Context = Context {
+    guest: 0,
+    named: None,
+};
 
 #[derive(Drop)]
 struct Harness {
@@ -62,7 +68,10 @@ impl Harness {
     fn read(&mut self) -> Result<Reply> {
         let call = EntryCall::Read { size: 4 };
         let call = Call::On { number: 0, call };
-        self.answer(&Line::Call { guest: 0, call })
+        self.answer(&Line::Call {
+            context: MAIN,
+            call,
+        })
     }
 
     fn work(&mut self, turn: WorkerTurn) -> Result<()> {

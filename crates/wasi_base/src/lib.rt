@@ -14,6 +14,7 @@ mod standard;
 mod stream_error;
 #[cfg(test)]
 mod tests;
+mod text;
 mod trap_text;
 mod trappable;
 
@@ -28,5 +29,6 @@ pub use sink::{Sink, SinkPlan, WriteStop, write_all};
 pub use source::{Plan, Source};
 pub use standard::{FileSink, FileSource, StdSink, StdSource};
 pub use stream_error::{StreamError, stream_error_from};
+pub use text::Text;
 pub use trap_text::TrapText;
 pub use trappable::{TrappableError, Trapped};

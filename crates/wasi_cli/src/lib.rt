@@ -32,6 +32,7 @@ pub use shared::{
 pub use stdout_handle::StdoutHandle;
 pub use streams::{IsTerminal, P2In, P2Out, PolledIn, PolledOut, StdinStream, StdoutStream};
 pub use terminals::{IsATTY, TerminalInput, TerminalOutput};
-pub use texts::{ArgList, CwdText, EnvList};
+pub use texts::{ArgList, EnvList};
 pub use turns::Turns;
 pub use units::{AsyncStdinStream, AsyncStdoutStream, Empty, Stderr, Stdin, Stdout};
+pub use wasi_base::Text as CwdText;

@@ -36,21 +36,6 @@ impl Model for ArgList {
     ghost view = { λ a. texts a.arguments.items };
 }
 
-/// A text of its own, as the first directory of a context or what a link leads to. Contracts see
-/// its bytes.
-#[derive(Debug, Drop)]
-pub struct CwdText {
-    text: String,
-}
-
-impl Model for CwdText {
-    ghost use Rattle.std.specs.Prelude.{ℕ, List, string_bytes};
-
-    ghost Value = { List ℕ };
-
-    ghost view = { λ cwd. string_bytes cwd.text };
-}
-
 fn copy_pair(alloc: Global, pair: &(String, String)) -> Result<(String, String), OutOfMemory>
     ensures name { IfOk result (λ copy. string_bytes copy.0 ≡ string_bytes pair.now.0) }
     ensures value { IfOk result (λ copy. string_bytes copy.1 ≡ string_bytes pair.now.1) }
@@ -177,32 +162,5 @@ impl ArgList {
     {
         let arguments = copy_texts(alloc, self.arguments.as_slice())?;
         Ok(ArgList { arguments })
-    }
-}
-
-impl CwdText {
-    pub fn new(text: String) -> CwdText
-        ensures { result ≡ string_bytes text }
-    {
-        CwdText { text }
-    }
-
-    pub fn from_str(alloc: Global, text: &str) -> Result<CwdText, OutOfMemory>
-        ensures { IfOk result (λ copy. copy ≡ text.now) }
-    {
-        let text = String::from_str(alloc, text)?;
-        Ok(CwdText { text })
-    }
-
-    pub fn as_str(&self) -> &str
-        ensures { result.now ≡ self.now }
-    {
-        self.text.as_str()
-    }
-
-    pub fn into_string(self) -> String
-        ensures { string_bytes result ≡ self }
-    {
-        self.text
     }
 }

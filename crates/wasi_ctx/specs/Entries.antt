@@ -13,3 +13,4 @@ kind_of (entry.PolledOutput polled) = 5
 kind_of (entry.Pollable wait) = 6
 kind_of (entry.Deadline deadline) = 7
 kind_of (entry.Wait wait) = 8
+kind_of (entry.Descriptor descriptor) = 9

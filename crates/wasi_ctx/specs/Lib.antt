@@ -1,3 +1,4 @@
 pub mod Sockets
 pub mod Entries
+pub mod Filesystem
 pub mod Pushes

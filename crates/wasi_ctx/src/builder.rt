@@ -2,6 +2,7 @@ ghost use Rattle.std.specs.Prelude.{◌≡◌, ◌++◌, ◌∷◌, [], Some, If
 ghost use Rattle.wasi_cli.specs.Texts.{texts, text_pairs};
 ghost use Rattle.wasi_clocks.specs.declared.context.HeldWallClock.TheVariants as wall;
 ghost use Rattle.wasi_clocks.specs.declared.context.HeldMonotonicClock.TheVariants as mono;
+ghost use Rattle.wasi_ctx.specs.Filesystem.{given_dir};
 ghost use Rattle.wasi_ctx.specs.Sockets.{IsHeld};
 ghost use Rattle.wasi_cli.specs.Environment.{no_command_line};
 
@@ -14,6 +15,8 @@ use wasi_cli::{CwdText, InKind, OutKind, Stderr, Stdout, WasiCliCtx};
 use wasi_clocks::{
     HeldMonotonicClock, HeldWallClock, HostMonotonicClock, HostWallClock, WallTime, WasiClocksCtx,
 };
+use wasi_fs::Dir;
+use wasi_fs_types::FsPerms;
 use wasi_random::{DEFAULT_MAX_SIZE, Generator, WasiRandomCtx, seeded_rng};
 
 /// Makes a context, setting by setting. A setting that stands again counts from then on; the
@@ -30,7 +33,7 @@ impl WasiCtxBuilder {
     pub fn new(alloc: Global) -> WasiCtxBuilder
         ensures cli { result.ctx.cli ≡ no_command_line }
         ensures clocks { ⟦<WasiClocksCtx as Default>⟧.is_default result.ctx.clocks }
-        ensures filesystem { result.ctx.filesystem ≡ record { allow_blocking_current_thread = false } }
+        ensures filesystem { result.ctx.filesystem ≡ record { preopens = []; allow_blocking_current_thread = false } }
         ensures random { ⟦<WasiRandomCtx as Default>⟧.is_default result.ctx.random }
         ensures sockets { ⟦<WasiSocketsCtx as Default>⟧.is_default result.ctx.sockets }
     {
@@ -38,9 +41,7 @@ impl WasiCtxBuilder {
             ctx: WasiCtx {
                 cli: WasiCliCtx::default(alloc),
                 clocks: still_clocks(),
-                filesystem: WasiFilesystemCtx {
-                    allow_blocking_current_thread: false,
-                },
+                filesystem: WasiFilesystemCtx::new(alloc),
                 random: seeded_sources(),
                 sockets: WasiSocketsCtx::default(),
             },
@@ -227,6 +228,25 @@ impl WasiCtxBuilder {
                 self.ctx.cli.initial_cwd = Some(cwd);
                 Ok(self)
             }
+            Err(refused) => Err(refused),
+        }
+    }
+
+    /// Gives the guest a directory under a path, after those that it is given already: with these
+    /// perms, to be read, and written too where they let that be, and with streams that work at once
+    /// where a call on a file may block the thread as things stand now.
+    pub fn preopened_dir(
+        &mut self,
+        alloc: Global,
+        dir: Dir,
+        path: &str,
+        perms: FsPerms,
+    ) -> Result<&mut WasiCtxBuilder, OutOfMemory>
+        ensures same { IfOk result (λ builder. builder.ghost_name ≡ self.entry.ghost_name) }
+        ensures sets { IfOk result (λ builder. builder.now ≡ record self.entry.now { ctx = record self.entry.now.ctx { filesystem = record self.entry.now.ctx.filesystem { preopens = self.entry.now.ctx.filesystem.preopens ++ (given_dir dir perms self.entry.now.ctx.filesystem.allow_blocking_current_thread, path.now) ∷ [] } } }) }
+    {
+        match self.ctx.filesystem.give(alloc, dir, path, perms) {
+            Ok(()) => Ok(self),
             Err(refused) => Err(refused),
         }
     }

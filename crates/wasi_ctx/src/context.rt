@@ -1,4 +1,4 @@
-ghost use Rattle.std.specs.Prelude.{◌≡◌, false};
+ghost use Rattle.std.specs.Prelude.{◌≡◌, [], false};
 ghost use Rattle.wasi_cli.specs.Environment.{no_command_line};
 
 use crate::{WasiCtxBuilder, WasiFilesystemCtx, WasiSocketsCtx};
@@ -22,7 +22,7 @@ impl WasiCtx {
     pub fn builder(alloc: Global) -> WasiCtxBuilder
         ensures cli { result.ctx.cli ≡ no_command_line }
         ensures clocks { ⟦<WasiClocksCtx as Default>⟧.is_default result.ctx.clocks }
-        ensures filesystem { result.ctx.filesystem ≡ record { allow_blocking_current_thread = false } }
+        ensures filesystem { result.ctx.filesystem ≡ record { preopens = []; allow_blocking_current_thread = false } }
         ensures random { ⟦<WasiRandomCtx as Default>⟧.is_default result.ctx.random }
         ensures sockets { ⟦<WasiSocketsCtx as Default>⟧.is_default result.ctx.sockets }
     {
@@ -33,7 +33,7 @@ impl WasiCtx {
     pub fn default(alloc: Global) -> WasiCtx
         ensures cli { result.cli ≡ no_command_line }
         ensures clocks { ⟦<WasiClocksCtx as Default>⟧.is_default result.clocks }
-        ensures filesystem { result.filesystem ≡ record { allow_blocking_current_thread = false } }
+        ensures filesystem { result.filesystem ≡ record { preopens = []; allow_blocking_current_thread = false } }
         ensures random { ⟦<WasiRandomCtx as Default>⟧.is_default result.random }
         ensures sockets { ⟦<WasiSocketsCtx as Default>⟧.is_default result.sockets }
     {
@@ -59,6 +59,13 @@ impl WasiCtx {
         ensures { result.now ≡ self.entry.now.cli }
     {
         &mut self.cli
+    }
+
+    /// What a guest may do with files.
+    pub fn filesystem(&mut self) -> &mut WasiFilesystemCtx
+        ensures { result.now ≡ self.entry.now.filesystem }
+    {
+        &mut self.filesystem
     }
 
     /// What a guest may do with sockets.

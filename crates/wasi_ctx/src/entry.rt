@@ -1,5 +1,6 @@
 use wasi_cli::{P2In, P2Out, PolledIn, PolledOut, StdioHandle, StdoutHandle};
 use wasi_clocks::{Deadline, Wait3};
+use wasi_fs::Descriptor;
 use wasi_stdin::Wait;
 use wasi_table::{Kinded, ResourceTable};
 
@@ -40,6 +41,8 @@ pub enum Entry {
     Deadline(Deadline),
     /// The same in WASI 0.3.
     Wait(Wait3),
+    /// An open file or directory.
+    Descriptor(Descriptor),
 }
 
 /// The entries of a guest, by number.
@@ -63,6 +66,8 @@ impl Entry {
     pub const DEADLINE: u32 = 7;
 
     pub const WAIT: u32 = 8;
+
+    pub const DESCRIPTOR: u32 = 9;
 }
 
 impl Kinded for Entry {
@@ -81,6 +86,7 @@ impl Kinded for Entry {
             Entry::Pollable(_) => Entry::POLLABLE,
             Entry::Deadline(_) => Entry::DEADLINE,
             Entry::Wait(_) => Entry::WAIT,
+            Entry::Descriptor(_) => Entry::DESCRIPTOR,
         }
     }
 }

@@ -46,6 +46,20 @@ pub trait WasiClocksView<C>: Send {
         ensures table { result.table.now ≡ clocks_table self.entry.now };
 }
 
+/// A host that lends its files, `C`, with the guest's table.
+pub trait WasiFilesystemView<C>: Send {
+    ghost use Rattle.wasi_table.specs.Table.{Table};
+    ghost use Rattle.wasi_ctx.specs.declared.entry.Entry.{Entry};
+
+    ghost filesystem_of: { Self → C };
+
+    ghost filesystem_table: { Self → Table Entry };
+
+    fn filesystem(&mut self) -> LentView<'_, C>
+        ensures ctx { result.ctx.now ≡ filesystem_of self.entry.now }
+        ensures table { result.table.now ≡ filesystem_table self.entry.now };
+}
+
 /// A host that lends its sockets, `C`, with the guest's table.
 pub trait WasiSocketsView<C>: Send {
     ghost use Rattle.wasi_table.specs.Table.{Table};

@@ -25,14 +25,19 @@ pub use builder::WasiCtxBuilder;
 pub use caller_check::{AddrTest, CallerCheck};
 pub use context::WasiCtx;
 pub use entry::{Entry, PolledInput, PolledOutput, Table};
-pub use filesystem::WasiFilesystemCtx;
-pub use hosts::{WasiCliView, WasiClocksView, WasiRandomView, WasiSocketsView, WasiView};
+pub use filesystem::{Preopens, WasiFilesystemCtx};
+pub use hosts::{
+    WasiCliView, WasiClocksView, WasiFilesystemView, WasiRandomView, WasiSocketsView, WasiView,
+};
 pub use named::{
-    WasiCliNamedView, WasiClocksNamedView, WasiCtxNamedView, WasiNamedView, WasiRandomNamedView,
-    WasiSocketsNamedView,
+    WasiCliNamedView, WasiClocksNamedView, WasiCtxNamedView, WasiFilesystemNamedView,
+    WasiNamedView, WasiRandomNamedView, WasiSocketsNamedView,
 };
 pub use named_id::NamedId;
 pub use p1_context::WasiP1Ctx;
 pub use socket_error::{SocketError, SocketErrorCode, SocketResult};
 pub use sockets::{SocketAddrCheck, WasiSocketsCtx};
-pub use views::{LentView, WasiCliCtxView, WasiClocksCtxView, WasiCtxView, WasiSocketsCtxView};
+pub use views::{
+    LentView, WasiCliCtxView, WasiClocksCtxView, WasiCtxView, WasiFilesystemCtxView,
+    WasiSocketsCtxView,
+};

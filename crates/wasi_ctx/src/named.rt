@@ -40,6 +40,21 @@ pub trait WasiClocksNamedView<C>: Send {
         ensures table { result.table.now ≡ clocks_table self.entry.now };
 }
 
+/// The same of the files, `C`.
+pub trait WasiFilesystemNamedView<C>: Send {
+    ghost use Rattle.wasi_table.specs.Table.{Table};
+    ghost use Rattle.wasi_ctx.specs.declared.entry.Entry.{Entry};
+    ghost use Rattle.wasi_ctx.specs.declared.named_id.NamedId.{NamedId};
+
+    ghost filesystem_of: { Self → NamedId → C };
+
+    ghost filesystem_table: { Self → Table Entry };
+
+    fn filesystem(&mut self, id: NamedId) -> LentView<'_, C>
+        ensures ctx { result.ctx.now ≡ filesystem_of self.entry.now id }
+        ensures table { result.table.now ≡ filesystem_table self.entry.now };
+}
+
 /// The same of the sockets, `C`.
 pub trait WasiSocketsNamedView<C>: Send {
     ghost use Rattle.wasi_table.specs.Table.{Table};

@@ -1,7 +1,8 @@
+mod directories;
 mod named;
 mod settings;
 
-use crate::{SockAddr, SocketAddrUse, WasiCtx, WasiCtxBuilder, WasiFilesystemCtx, WasiSocketsCtx};
+use crate::{SockAddr, SocketAddrUse, WasiCtx, WasiCtxBuilder, WasiSocketsCtx};
 use std::alloc::{AllocError, Global};
 use std::process::Abort;
 use std::test::Fail;
@@ -19,7 +20,7 @@ struct Plain {
     wall_resolution: WallTime,
     mono: u64,
     mono_resolution: u64,
-    filesystem: WasiFilesystemCtx,
+    blocking: bool,
     secure: u64,
     insecure: u64,
     seed: (u64, u64),
@@ -45,9 +46,7 @@ fn defaults() -> Plain {
         wall_resolution: WallTime::one_nanosecond(),
         mono: 0,
         mono_resolution: 1,
-        filesystem: WasiFilesystemCtx {
-            allow_blocking_current_thread: false,
-        },
+        blocking: false,
         secure: 10_393_729_187_455_219_830,
         insecure: 10_393_729_187_455_219_830,
         seed: (0, 0),
@@ -82,7 +81,8 @@ fn has_numbers(rt: &impl Abort, ctx: WasiCtx, want: &Plain) {
     assert_eq!(rt; clocks.wall_resolution(), want.wall_resolution);
     assert_eq!(rt; clocks.mono_now(), want.mono);
     assert_eq!(rt; clocks.mono_resolution(), want.mono_resolution);
-    assert_eq!(rt; filesystem, want.filesystem);
+    assert_eq!(rt; filesystem.len(), 0);
+    assert_eq!(rt; filesystem.blocking(), want.blocking);
     draws(rt, random, want);
     assert_eq!(rt; sockets.tcp, want.tcp);
     assert_eq!(rt; sockets.udp, want.udp);

@@ -3,7 +3,7 @@ ghost use Rattle.wasi_table.specs.Table.{IsPush};
 ghost use Rattle.wasi_cli.specs.Kinds.{in_p2, out_p2, in_terminal, out_terminal};
 ghost use Rattle.wasi_ctx.specs.Pushes.{IsTerminalPush};
 
-use crate::{Entry, Table, WasiCtx, WasiSocketsCtx};
+use crate::{Entry, Table, WasiCtx, WasiFilesystemCtx, WasiSocketsCtx};
 use wasi_cli::{IsTerminal, StdinStream, StdoutStream, WasiCliCtx};
 use wasi_clocks::WasiClocksCtx;
 use wasi_random::WasiRandomCtx;
@@ -24,6 +24,9 @@ pub type WasiCliCtxView<'a> = LentView<'a, WasiCliCtx>;
 
 /// The clocks with the table.
 pub type WasiClocksCtxView<'a> = LentView<'a, WasiClocksCtx>;
+
+/// The files with the table.
+pub type WasiFilesystemCtxView<'a> = LentView<'a, WasiFilesystemCtx>;
 
 /// The sockets with the table.
 pub type WasiSocketsCtxView<'a> = LentView<'a, WasiSocketsCtx>;
@@ -49,6 +52,18 @@ impl<'a> LentView<'a, WasiCtx> {
         let LentView { ctx, table } = self;
         LentView {
             ctx: &mut ctx.clocks,
+            table,
+        }
+    }
+
+    /// The view of the files' part.
+    pub fn filesystem(self) -> WasiFilesystemCtxView<'a>
+        ensures ctx { result.ctx.now ≡ self.entry.ctx.now.filesystem }
+        ensures table { result.table.now ≡ self.entry.table.now }
+    {
+        let LentView { ctx, table } = self;
+        LentView {
+            ctx: &mut ctx.filesystem,
             table,
         }
     }

@@ -7,10 +7,11 @@ use crate::check::check_line;
 use crate::declared::Declared;
 use crate::lines::cut_at_line;
 use crate::reason::Reason;
-use crate::words::Flaw;
+use crate::words::{Flaw, Words};
 use std::alloc::Global;
 use thiserror::Error;
 use wasi_base::OutOfMemory;
+use wasi_fs_types::ErrorCode;
 use wasi_script::{ScriptError, parse_script};
 
 /// The first line of a script that is not valid, and what is wrong with it.
@@ -36,7 +37,8 @@ pub fn explain(alloc: Global, script: &[u8]) -> Result<Option<BadLine>, OutOfMem
         Err(ScriptError::BadLine(line)) => {
             let (before, text) = cut_at_line(script, line);
             let declared = Declared::in_lines(alloc, before)?;
-            let flaw = flaw_in(text, &declared);
+            let refused = declared.refusal(text)?;
+            let flaw = flaw_in(text, &declared, refused);
             let bad_line = BadLine {
                 line,
                 column: column_of(text, flaw.left),
@@ -48,13 +50,28 @@ pub fn explain(alloc: Global, script: &[u8]) -> Result<Option<BadLine>, OutOfMem
     }
 }
 
-fn flaw_in(line: &[u8], declared: &Declared) -> Flaw {
+fn flaw_in(line: &[u8], declared: &Declared, refused: Option<ErrorCode>) -> Flaw {
     match check_line(line, declared) {
         Err(flaw) => flaw,
-        Ok(()) => Flaw {
-            left: line.len(),
-            reason: Reason::Other,
-        },
+        Ok(()) => refused.map_or(
+            Flaw {
+                left: line.len(),
+                reason: Reason::Other,
+            },
+            |code| path_flaw(line, code),
+        ),
+    }
+}
+
+// a tree refuses the node at a path, which is the third word
+fn path_flaw(line: &[u8], code: ErrorCode) -> Flaw {
+    let reason = Reason::Refused(code);
+    let mut words = Words::new(line);
+    let _ = words.next();
+    let _ = words.next();
+    match words.next() {
+        Some(word) => word.flaw(reason),
+        None => Flaw { left: 0, reason },
     }
 }
 

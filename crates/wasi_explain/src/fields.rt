@@ -1,4 +1,9 @@
+use crate::contexts::{Context, context_of};
 use crate::declared::{Declared, Stream};
+use crate::descriptors::{
+    check_advice, check_answer, check_fault, check_letters, check_path_flags, check_perms,
+    check_timestamp,
+};
 use crate::plans::{check_read_plan, check_write_plan};
 use crate::reason::Reason;
 use crate::texts::are_utf8;
@@ -18,11 +23,25 @@ pub enum Field {
     NewBuffered,
     /// The name of a declared stream whose task has its turn.
     Task(Stream),
+    /// The name of the tree that the line declares.
+    NewTree,
+    /// A declared tree.
+    Tree,
+    /// A declared tree to which lines may add.
+    GrowingTree,
     /// The guest that the line declares.
     NewGuest,
+    /// The named context that the line declares, of a guest that has made no call.
+    NewContext,
     /// A declared guest that has made no call.
+    ConfiguredGuest,
+    /// A declared context of a guest that has made no call.
     Configured,
-    /// A declared guest, which makes a call.
+    /// Such a context, which the line gives a directory.
+    Given,
+    /// Such a context, which no line gave a directory yet.
+    Ungiven,
+    /// A declared context, through which its guest makes a call.
     Caller,
     /// What a guest may read.
     Input,
@@ -48,6 +67,17 @@ pub enum Field {
     Seed,
     ExitStatus,
     ExitCode,
+    /// The kind of a fault.
+    Fault,
+    /// What a guest may do below a directory.
+    Perms,
+    /// `yes` or `no`.
+    Answer,
+    PathFlags,
+    OpenFlags,
+    DescriptorFlags,
+    Timestamp,
+    Advice,
 }
 
 impl Field {
@@ -58,8 +88,14 @@ impl Field {
             Field::NewOutput | Field::NewStdio | Field::NewBuffered => {
                 check_new_name(word, declared)
             }
+            Field::NewTree => check_new_tree(word, declared),
+            Field::Tree => check_tree(word, declared),
+            Field::GrowingTree => check_growing(word, declared),
             Field::NewGuest => check_new_guest(word, declared),
-            Field::Configured => check_configured(word, declared),
+            Field::NewContext => check_new_context(word, declared),
+            Field::ConfiguredGuest => check_quiet(guest_number(word)?, declared),
+            Field::Configured | Field::Given => check_configured(word, declared),
+            Field::Ungiven => check_ungiven(word, declared),
             Field::Caller => check_caller(word, declared),
             Field::Input => check_input(word, declared),
             Field::Output => check_output(word, declared),
@@ -79,6 +115,14 @@ impl Field {
             Field::Seed => check_seed(word),
             Field::ExitStatus => check_status(word),
             Field::ExitCode => check_number(word, 0, 255),
+            Field::Fault => check_fault(word),
+            Field::Perms => check_perms(word),
+            Field::Answer => check_answer(word),
+            Field::PathFlags => check_path_flags(word),
+            Field::OpenFlags => check_letters(word, b"cdet"),
+            Field::DescriptorFlags => check_letters(word, b"rwfsqm"),
+            Field::Timestamp => check_timestamp(word),
+            Field::Advice => check_advice(word),
         }
     }
 }
@@ -125,22 +169,50 @@ fn check_new_guest(word: &[u8], declared: &Declared) -> Result<(), Reason> {
     }
 }
 
-fn declared_guest(word: &[u8], declared: &Declared) -> Result<u64, Reason> {
-    let guest = guest_number(word)?;
+fn check_new_context(word: &[u8], declared: &Declared) -> Result<(), Reason> {
+    let Context { guest, named } = context_of(word)?;
+    let id = named.ok_or(Reason::NoContextNumber)?;
+    check_quiet(guest, declared)?;
+    if declared.has_context(guest, id) {
+        Err(Reason::ContextTwice)
+    } else {
+        Ok(())
+    }
+}
+
+fn check_caller(word: &[u8], declared: &Declared) -> Result<(), Reason> {
+    let context = context_of(word)?;
+    check_guest(context.guest, declared)?;
+    check_context(context, declared)
+}
+
+fn check_configured(word: &[u8], declared: &Declared) -> Result<(), Reason> {
+    let context = context_of(word)?;
+    check_quiet(context.guest, declared)?;
+    check_context(context, declared)
+}
+
+// .. which no line gave a directory
+fn check_ungiven(word: &[u8], declared: &Declared) -> Result<(), Reason> {
+    check_configured(word, declared)?;
+    if declared.was_given(context_of(word)?) {
+        Err(Reason::AfterPreopen)
+    } else {
+        Ok(())
+    }
+}
+
+fn check_guest(guest: u64, declared: &Declared) -> Result<(), Reason> {
     if declared.has_guest(guest) {
-        Ok(guest)
+        Ok(())
     } else {
         Err(Reason::UnknownGuest)
     }
 }
 
-fn check_caller(word: &[u8], declared: &Declared) -> Result<(), Reason> {
-    declared_guest(word, declared)?;
-    Ok(())
-}
-
-fn check_configured(word: &[u8], declared: &Declared) -> Result<(), Reason> {
-    let guest = declared_guest(word, declared)?;
+// a declared guest that has made no call
+fn check_quiet(guest: u64, declared: &Declared) -> Result<(), Reason> {
+    check_guest(guest, declared)?;
     if declared.has_called(guest) {
         Err(Reason::AfterFirstCall)
     } else {
@@ -148,13 +220,57 @@ fn check_configured(word: &[u8], declared: &Declared) -> Result<(), Reason> {
     }
 }
 
-fn check_new_name(word: &[u8], declared: &Declared) -> Result<(), Reason> {
+// a context that a declared guest has
+fn check_context(context: Context, declared: &Declared) -> Result<(), Reason> {
+    match context.named {
+        Some(id) if !declared.has_context(context.guest, id) => Err(Reason::UnknownContext),
+        _ => Ok(()),
+    }
+}
+
+fn check_free_name(word: &[u8], declared: &Declared) -> Result<(), Reason> {
     if !is_name(word) {
         Err(Reason::BadName)
-    } else if declared.stream(word).is_some() {
+    } else if declared.stream(word).is_some() || declared.trees.contains(word) {
         Err(Reason::NameTwice)
-    } else if declared.is_full() {
+    } else {
+        Ok(())
+    }
+}
+
+fn check_new_name(word: &[u8], declared: &Declared) -> Result<(), Reason> {
+    check_free_name(word, declared)?;
+    if declared.is_full() {
         Err(Reason::TooManyNames)
+    } else {
+        Ok(())
+    }
+}
+
+fn check_new_tree(word: &[u8], declared: &Declared) -> Result<(), Reason> {
+    check_free_name(word, declared)?;
+    if declared.trees.is_full() {
+        Err(Reason::TooManyTrees)
+    } else {
+        Ok(())
+    }
+}
+
+fn check_tree(word: &[u8], declared: &Declared) -> Result<(), Reason> {
+    if declared.trees.contains(word) {
+        Ok(())
+    } else if is_name(word) {
+        Err(Reason::UnknownTree)
+    } else {
+        Err(Reason::BadName)
+    }
+}
+
+// a tree grows until a guest is called
+fn check_growing(word: &[u8], declared: &Declared) -> Result<(), Reason> {
+    check_tree(word, declared)?;
+    if declared.is_called() {
+        Err(Reason::AfterAnyCall)
     } else {
         Ok(())
     }
@@ -271,6 +387,17 @@ fn check_bytes(word: &[u8]) -> Result<(), Reason> {
             check_byte(&word[star + 1..])
         }
         None => check_digits(word),
+    }
+}
+
+/// How many bytes a valid word stands for.
+pub fn count_in(word: &[u8]) -> u64 {
+    if word == b"-".as_slice() {
+        return 0;
+    }
+    match word.iter().position(|byte| *byte == b'*') {
+        Some(star) => decimal(&word[..star]).unwrap_or(0),
+        None => word.len() as u64 / 2,
     }
 }
 

@@ -3,7 +3,7 @@
 use crate::declared::Stream;
 use crate::fields::Field;
 
-/// What the words of a line after its first one have to be. After `call G` stand the name of a call
+/// What the words of a line after its first one have to be. After `call CTX` stand the name of a call
 /// and its words, after `turn` the kind of the task and its words, and after `clock` what is set and
 /// its words.
 pub fn line_fields(word: &[u8]) -> Option<&'static [Field]> {
@@ -21,8 +21,16 @@ pub fn line_fields(word: &[u8]) -> Option<&'static [Field]> {
             Field::Budget,
         ]),
         b"guest" => Some(&[Field::NewGuest, Field::Input]),
+        b"tree" => Some(&[Field::NewTree]),
+        b"treedir" => Some(&[Field::GrowingTree, Field::Text]),
+        b"treefile" => Some(&[Field::GrowingTree, Field::Text, Field::DeclaredBytes]),
+        b"treelink" => Some(&[Field::GrowingTree, Field::Text, Field::Text]),
+        b"treefail" => Some(&[Field::Tree, Field::Fault]),
+        b"preopen" => Some(&[Field::Given, Field::Tree, Field::Text, Field::Perms]),
+        b"blocking" => Some(&[Field::Ungiven, Field::Answer]),
+        b"context" => Some(&[Field::NewContext, Field::Input]),
         b"stdout" | b"stderr" => Some(&[Field::Configured, Field::Output]),
-        b"capacity" => Some(&[Field::Configured, Field::Capacity]),
+        b"capacity" => Some(&[Field::ConfiguredGuest, Field::Capacity]),
         b"env" => Some(&[Field::Configured, Field::Text, Field::Text]),
         b"arg" | b"cwd" => Some(&[Field::Configured, Field::Text]),
         b"random" => Some(&[Field::Configured, Field::RandomSource, Field::RepeatedBytes]),
@@ -42,6 +50,7 @@ pub fn call_fields(name: &[u8]) -> Option<&'static [Field]> {
         b"async-stdin" | b"async-stdout" | b"async-stderr" => Some(&[]),
         b"terminal-stdin" | b"terminal-stdout" | b"terminal-stderr" => Some(&[]),
         b"get-environment" | b"get-arguments" | b"initial-cwd" => Some(&[]),
+        b"get-directories" => Some(&[]),
         b"read" | b"skip" | b"poll-read" => Some(&[Field::Number, Field::Number]),
         b"write" | b"poll-write" => Some(&[Field::Number, Field::Bytes]),
         b"check-write" | b"flush" | b"poll-flush" => Some(&[Field::Number]),
@@ -62,6 +71,53 @@ fn source_fields(name: &[u8]) -> Option<&'static [Field]> {
         b"random-bytes" | b"insecure-bytes" => Some(&[Field::Number]),
         b"p3-random-bytes" | b"p3-insecure-bytes" => Some(&[Field::Number]),
         b"random-u64" | b"insecure-u64" | b"insecure-seed" => Some(&[]),
+        _ => descriptor_fields(name),
+    }
+}
+
+// .. and of a call on descriptors
+fn descriptor_fields(name: &[u8]) -> Option<&'static [Field]> {
+    match name {
+        b"get-flags" | b"get-type" | b"sync" | b"sync-data" => Some(&[Field::Number]),
+        b"stat" | b"metadata-hash" => Some(&[Field::Number]),
+        b"set-size" | b"is-same-object" => Some(&[Field::Number, Field::Number]),
+        b"advise" => Some(&[Field::Number, Field::Number, Field::Number, Field::Advice]),
+        b"set-times" => Some(&[Field::Number, Field::Timestamp, Field::Timestamp]),
+        b"create-directory-at" | b"readlink-at" => Some(&[Field::Number, Field::Text]),
+        b"remove-directory-at" | b"unlink-file-at" => Some(&[Field::Number, Field::Text]),
+        b"symlink-at" => Some(&[Field::Number, Field::Text, Field::Text]),
+        b"rename-at" => Some(&[Field::Number, Field::Text, Field::Number, Field::Text]),
+        _ => path_fields(name),
+    }
+}
+
+// .. where the call says whether a link is to be followed
+fn path_fields(name: &[u8]) -> Option<&'static [Field]> {
+    match name {
+        b"stat-at" | b"metadata-hash-at" => {
+            Some(&[Field::Number, Field::PathFlags, Field::Text])
+        }
+        b"set-times-at" => Some(&[
+            Field::Number,
+            Field::PathFlags,
+            Field::Text,
+            Field::Timestamp,
+            Field::Timestamp,
+        ]),
+        b"link-at" => Some(&[
+            Field::Number,
+            Field::PathFlags,
+            Field::Text,
+            Field::Number,
+            Field::Text,
+        ]),
+        b"open-at" => Some(&[
+            Field::Number,
+            Field::PathFlags,
+            Field::Text,
+            Field::OpenFlags,
+            Field::DescriptorFlags,
+        ]),
         _ => None,
     }
 }

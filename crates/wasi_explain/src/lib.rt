@@ -3,13 +3,16 @@
 
 mod bad_line;
 mod check;
+mod contexts;
 mod declared;
+mod descriptors;
 mod fields;
 mod forms;
 mod lines;
 mod plans;
 mod reason;
 mod texts;
+mod trees;
 mod words;
 
 pub use bad_line::{BadLine, explain};

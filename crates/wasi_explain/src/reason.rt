@@ -1,4 +1,5 @@
 use thiserror::Error;
+use wasi_fs_types::ErrorCode;
 
 /// What is wrong with a line of a script. Its text says it in plain words.
 #[derive(Clone, Copy, Debug, PartialEq, Eq, Drop, Error)]
@@ -33,6 +34,8 @@ pub enum Reason {
     TooManySeedDigits,
     #[error("number out of range: 0 to 340282366920938463463374607431768211455")]
     SeedOutOfRange,
+    #[error("no number of a context after the guest's")]
+    NoContextNumber,
     #[error("neither secure nor insecure")]
     BadSource,
     #[error("no bytes")]
@@ -69,6 +72,8 @@ pub enum Reason {
     InputAsOutput,
     #[error("guest not declared yet")]
     UnknownGuest,
+    #[error("context not declared yet")]
+    UnknownContext,
     #[error("input not declared yet")]
     UnknownInput,
     #[error("output not declared yet")]
@@ -77,14 +82,42 @@ pub enum Reason {
     NoTask,
     #[error("terminal that is no stdio")]
     NoTerminal,
+    #[error("tree not declared yet")]
+    UnknownTree,
+    #[error("refused by the tree: {0}")]
+    Refused(ErrorCode),
+    #[error("neither ro nor rw")]
+    BadPerms,
+    #[error("neither yes nor no")]
+    BadAnswer,
+    #[error("no such kind of fault")]
+    BadFault,
+    #[error("neither - nor follow")]
+    BadPathFlags,
+    #[error("no such letter")]
+    BadLetter,
+    #[error("letter twice")]
+    LetterTwice,
+    #[error("not a time: not keep, now or seconds and nanoseconds with : between")]
+    BadTime,
+    #[error("no such advice")]
+    BadAdvice,
     #[error("guest declared twice")]
     GuestTwice,
+    #[error("context declared twice")]
+    ContextTwice,
     #[error("name declared twice")]
     NameTwice,
     #[error("more than 64 names")]
     TooManyNames,
+    #[error("more than 16 trees")]
+    TooManyTrees,
     #[error("after the guest's first call")]
     AfterFirstCall,
+    #[error("after the script's first call")]
+    AfterAnyCall,
+    #[error("after a directory was given to the context")]
+    AfterPreopen,
     /// None of the others. No such script is known.
     #[error("not a valid line")]
     Other,

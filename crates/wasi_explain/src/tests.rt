@@ -1,5 +1,7 @@
 //! Bad lines with the columns and the reasons that they have by the rules of scripts.
 
+mod trees;
+
 use crate::{BadLine, Reason, explain};
 use std::alloc::Global;
 use std::process::Abort;
@@ -99,7 +101,7 @@ fn bytes_and_blanks(rt: HostRuntime) -> Result<(), Fail> {
 fn words_of_lines_and_calls(rt: HostRuntime) -> Result<(), Fail> {
     let bad_lines = [
         ("CAPTURE", 1, Reason::NoSuchLine),
-        ("treefile A - -", 1, Reason::NoSuchLine),
+        ("treefork A - -", 1, Reason::NoSuchLine),
         ("capture 1", 9, Reason::ExtraWord),
         ("pipe", 5, Reason::MissingWord),
         ("pipe Q", 7, Reason::MissingWord),
@@ -319,6 +321,52 @@ fn guests(rt: HostRuntime) -> Result<(), Fail> {
     ];
     let before = "guest 0 shared\nguest 1 shared\ncapacity 1 9\ncall 1 drop 0\n# call 0 drop 0\n";
     check_lines(&rt, rt.alloc(), before, &bad_lines)
+}
+
+#[test]
+fn contexts(rt: HostRuntime) -> Result<(), Fail> {
+    let id = Reason::OutOfRange { least: 0, most: 15 };
+    let guest = Reason::OutOfRange { least: 0, most: 63 };
+    let bad_lines = [
+        ("context", 8, Reason::MissingWord),
+        ("context 0.2", 12, Reason::MissingWord),
+        ("context 0.2 empty 0", 19, Reason::ExtraWord),
+        ("context 0 empty", 9, Reason::NoContextNumber),
+        ("context 0. empty", 9, Reason::NotANumber),
+        ("context .2 empty", 9, Reason::NotANumber),
+        ("context 0.2.3 empty", 9, Reason::NotANumber),
+        ("context 0,2 empty", 9, Reason::NotANumber),
+        ("context 64.0 empty", 9, guest),
+        ("context 0.16 empty", 9, id),
+        (
+            "context 0.000000000000000000002 empty",
+            9,
+            Reason::TooManyDigits,
+        ),
+        ("context 2.0 empty", 9, Reason::UnknownGuest),
+        ("context 1.2 empty", 9, Reason::AfterFirstCall),
+        ("context 0.15 empty", 9, Reason::ContextTwice),
+        ("context 00.0015 empty", 9, Reason::ContextTwice),
+        ("context 0.2 sink", 13, Reason::NotAnInput),
+        ("context 0.2 N", 13, Reason::UnknownInput),
+        ("stdout 0.2 empty", 8, Reason::UnknownContext),
+        ("stdout 0.15 shared", 13, Reason::NotAnOutput),
+        ("stderr 1.1 empty", 8, Reason::AfterFirstCall),
+        ("capacity 0.15 5", 10, Reason::NotANumber),
+        ("env 0.0 4b 76", 5, Reason::UnknownContext),
+        ("env 0.16 4b 76", 5, id),
+        ("arg 0.15 ff", 10, Reason::NotUtf8),
+        ("cwd 2.15 2f", 5, Reason::UnknownGuest),
+        ("random 0.15 secure -", 20, Reason::NoBytes),
+        ("maxrandom 1 5", 11, Reason::AfterFirstCall),
+        ("call 0.2 drop 0", 6, Reason::UnknownContext),
+        ("call 1.15 drop 0", 6, Reason::UnknownContext),
+        ("call 2.1 drop 0", 6, Reason::UnknownGuest),
+        ("call 1.1 drop", 14, Reason::MissingWord),
+    ];
+    let guests = "guest 0 empty\ncontext 0.15 shared\nguest 1 empty\ncontext 01.001 terminal\n";
+    let before = format!(in rt.alloc(); "{guests}stdout 0.15 sink\ncall 1.1 drop 0\n")?;
+    check_lines(&rt, rt.alloc(), &before, &bad_lines)
 }
 
 #[test]

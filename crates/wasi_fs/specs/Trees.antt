@@ -1,5 +1,5 @@
 -- A tree of files, and the descriptors that are of it.
-use Rattle.std.specs.Prelude.{◌≡◌, ℕ, ◌+◌, ◌-◌, ◌^◌, min, List, Option, Some, None, Result, Ok, Err}
+use Rattle.std.specs.Prelude.{◌≡◌, ℕ, Bool, true, false, nat_eq, ◌&&◌, ◌+◌, ◌-◌, ◌^◌, min, List, Option, Some, None, Result, Ok, Err}
 use Rattle.wasi_base.specs.declared.io_kind.IoKind.{IoKind}
 use Rattle.wasi_fs_types.specs.declared.error_code.ErrorCode.{ErrorCode}
 use Rattle.wasi_fs_types.specs.declared.error_code.ErrorCode.TheVariants as code
@@ -7,6 +7,7 @@ use Rattle.wasi_fs_types.specs.declared.descriptor.FsPerms.{FsPerms}
 use Rattle.wasi_fs_nodes.specs.Nodes.{kind_at}
 use Rattle.wasi_fs_nodes.specs.Outcome.{then, unless}
 use Rattle.wasi_fs_nodes.specs.declared.node.Node.{Node}
+use Rattle.wasi_fs_nodes.specs.declared.node.Kind.{Kind}
 use Rattle.wasi_fs_nodes.specs.declared.node.Kind.TheVariants as kind
 use Rattle.wasi_fs.specs.Flags.{is_read_only}
 use Rattle.wasi_fs.specs.declared.descriptor.File.{File}
@@ -57,6 +58,17 @@ pub record IsDirOf (tree : TreeState) (dir : Dir) : Type 0 where
 abbrev pub IsOf : TreeState → Descriptor → Type 0
 IsOf tree (descriptor.File file) = IsFileOf tree file
 IsOf tree (descriptor.Dir dir) = IsDirOf tree dir
+
+-- .. which can be told
+abbrev pub is_kind : Kind → Option Kind → Bool
+is_kind kind.File (Some kind.File) = true
+is_kind kind.Directory (Some kind.Directory) = true
+is_kind kind.Link (Some kind.Link) = true
+is_kind one other = false
+
+abbrev pub holds : TreeState → Descriptor → Bool
+holds tree (descriptor.File file) = nat_eq file.tree tree.number && is_kind kind.File (kind_at tree.nodes file.node)
+holds tree (descriptor.Dir dir) = nat_eq dir.tree tree.number && is_kind kind.Directory (kind_at tree.nodes dir.node)
 
 -- a call's second descriptor may be of another tree
 abbrev pub IsOfIfHere : TreeState → Descriptor → Type 0

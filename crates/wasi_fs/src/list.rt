@@ -43,10 +43,9 @@ fn told(nodes: &Nodes, alloc: Global, names: Vec<Entry>) -> Result<Vec<Directory
 {
     let mut entries = Vec::with_capacity(alloc, names.len())?;
     for entry in names {
-        let name = String::from_str(alloc, entry.name.as_str())?;
         entries.push(DirectoryEntry {
             type_: type_of_node(nodes.kind(entry.node)),
-            name: CwdText::new(name),
+            name: entry.name,
         })?;
     }
     Ok(entries)
@@ -67,11 +66,8 @@ pub fn map_dir_entry(
     let Ok(name) = str::from_utf8(name) else {
         return Err(StoreError::Code(ErrorCode::IllegalByteSequence));
     };
-    match String::from_str(alloc, name) {
-        Ok(name) => Ok(DirectoryEntry {
-            type_: ty,
-            name: CwdText::new(name),
-        }),
+    match CwdText::from_str(alloc, name) {
+        Ok(name) => Ok(DirectoryEntry { type_: ty, name }),
         Err(_) => Err(StoreError::OutOfMemory),
     }
 }

@@ -76,10 +76,7 @@ fn stat_told(stat: Stat) -> DescriptorStat
 fn copy_of(alloc: Global, text: &str) -> FilesystemResult<CwdText>
     ensures { Answers result (Ok text.now) }
 {
-    match String::from_str(alloc, text) {
-        Ok(text) => Ok(CwdText::new(text)),
-        Err(_) => Err(TrappableError::OutOfMemory),
-    }
+    CwdText::from_str(alloc, text).map_err(|_| TrappableError::OutOfMemory)
 }
 
 impl Tree {

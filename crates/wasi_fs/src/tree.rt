@@ -1,17 +1,17 @@
-ghost use Rattle.std.specs.Prelude.{◌≡◌, ◌≤◌, Some, None, false, IfOk};
+ghost use Rattle.std.specs.Prelude.{◌≡◌, ◌≤◌, Some, None, false, true, IfOk};
 ghost use Rattle.wasi_fs_nodes.specs.Changes.{root_alone};
 ghost use Rattle.wasi_fs_nodes.specs.Shape.{IsSound};
 ghost use Rattle.wasi_fs.specs.Times.{time_of};
-ghost use Rattle.wasi_fs.specs.Trees.{IsDirOf, after_fault};
+ghost use Rattle.wasi_fs.specs.Trees.{IsDirOf, IsOf, holds, after_fault};
 
-use crate::descriptor::Dir;
+use crate::descriptor::{Descriptor, Dir};
 use crate::times::time_of;
 use bitflags::Flags;
 use std::alloc::Global;
 use std::marker::Model;
 use wasi_base::{IoKind, OutOfMemory};
 use wasi_clocks::WallTime;
-use wasi_fs_nodes::Nodes;
+use wasi_fs_nodes::{Kind, Nodes};
 use wasi_fs_types::{FsPerms, OpenMode};
 
 /// A tree of files, directories and links in memory. Contracts see its number among the trees, its
@@ -79,6 +79,19 @@ impl Tree {
             mode: OpenMode::READ.union(OpenMode::WRITE),
             blocking: false,
         }
+    }
+
+    /// Whether a descriptor is of this tree: it has the tree's number, and a node that was made here
+    /// as what it is.
+    pub fn holds(&self, at: &Descriptor) -> bool
+        ensures is { result ≡ holds self.now at.now }
+        ensures of_tree { result ≡ true → IsOf self.now at.now }
+    {
+        let kind = match at {
+            Descriptor::File(_) => Kind::File,
+            Descriptor::Dir(_) => Kind::Directory,
+        };
+        at.tree() == self.number && self.nodes().kind(at.node()) == Some(kind)
     }
 
     pub(crate) fn planned(&self) -> Option<IoKind>

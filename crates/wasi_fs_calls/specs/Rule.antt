@@ -1,5 +1,5 @@
 -- What each call on a descriptor answers, and the tree after it.
-use Rattle.std.specs.Prelude.{◌≡◌, List, Result, Ok, Err, Bool, true, false, string_bytes}
+use Rattle.std.specs.Prelude.{◌≡◌, List, Result, Ok, Err, Bool, true, false}
 use Rattle.wasi_base.specs.declared.out_of_memory.OutOfMemory.{OutOfMemory}
 use Rattle.wasi_clocks.specs.declared.wall_times.WallTime.{WallTime}
 use Rattle.wasi_fs_types.specs.declared.error_code.ErrorCode.{ErrorCode}
@@ -57,24 +57,24 @@ answered tree at blocking now call.GetFlags = tells tree (told.Flags (flags_in a
 answered tree at blocking now call.GetType = tells tree (told.Type (type_in at))
 answered tree at blocking now (call.SetSize size) = changes tree (size_set tree.nodes at size)
 answered tree at blocking now (call.SetTimes access modified) = changes tree (times_set tree.nodes at access modified now)
-answered tree at blocking now (call.SetTimesAt flags path access modified) = changes tree (times_set_at tree.nodes at flags (string_bytes path) access modified now)
+answered tree at blocking now (call.SetTimesAt flags path access modified) = changes tree (times_set_at tree.nodes at flags path access modified now)
 answered tree at blocking now call.Sync = tells tree told.Ok
 answered tree at blocking now call.SyncData = tells tree told.Ok
-answered tree at blocking now (call.CreateDirectoryAt path) = changes tree (directory_created tree.nodes at (string_bytes path) now)
+answered tree at blocking now (call.CreateDirectoryAt path) = changes tree (directory_created tree.nodes at path now)
 answered tree at blocking now call.Stat = looks told.Stat tree (stat_of tree.nodes (node_in at))
-answered tree at blocking now (call.StatAt flags path) = looks told.Stat tree (stat_found tree.nodes at flags (string_bytes path))
-answered tree at blocking now (call.OpenAt flags path how mode) = opens tree (opened tree.nodes at flags (string_bytes path) how mode now blocking)
-answered tree at blocking now (call.ReadlinkAt path) = looks told.Text tree (link_read tree.nodes at (string_bytes path))
-answered tree at blocking now (call.RemoveDirectoryAt path) = changes tree (removed tree.nodes at (string_bytes path))
-answered tree at blocking now (call.SymlinkAt text path) = changes tree (symlink_made tree.nodes at (string_bytes text) (string_bytes path) now)
-answered tree at blocking now (call.UnlinkFileAt path) = changes tree (file_unlinked tree.nodes at (string_bytes path))
+answered tree at blocking now (call.StatAt flags path) = looks told.Stat tree (stat_found tree.nodes at flags path)
+answered tree at blocking now (call.OpenAt flags path how mode) = opens tree (opened tree.nodes at flags path how mode now blocking)
+answered tree at blocking now (call.ReadlinkAt path) = looks told.Text tree (link_read tree.nodes at path)
+answered tree at blocking now (call.RemoveDirectoryAt path) = changes tree (removed tree.nodes at path)
+answered tree at blocking now (call.SymlinkAt text path) = changes tree (symlink_made tree.nodes at text path now)
+answered tree at blocking now (call.UnlinkFileAt path) = changes tree (file_unlinked tree.nodes at path)
 answered tree at blocking now call.MetadataHash = tells tree (hash_told (hash_of tree (node_in at)))
-answered tree at blocking now (call.MetadataHashAt flags path) = looks hash_told tree (hash_found tree at flags (string_bytes path))
+answered tree at blocking now (call.MetadataHashAt flags path) = looks hash_told tree (hash_found tree at flags path)
 
 -- A CALL ON TWO DESCRIPTORS; of directories that are renamed, the way up tells which lie below which
 abbrev pub pair_answered : TreeState → Descriptor → Descriptor → PairCall → Outcome
-pair_answered tree at to (pair.LinkAt flags path to_path) = changes tree (link_made tree.nodes at flags (string_bytes path) to (string_bytes to_path))
-pair_answered tree at to (pair.RenameAt path to_path) = changes tree (node_renamed (climbs tree.nodes) tree.nodes at (string_bytes path) to (string_bytes to_path))
+pair_answered tree at to (pair.LinkAt flags path to_path) = changes tree (link_made tree.nodes at flags path to to_path)
+pair_answered tree at to (pair.RenameAt path to_path) = changes tree (node_renamed (climbs tree.nodes) tree.nodes at path to to_path)
 pair_answered tree at to pair.IsSameObject = tells tree (told.Truth (is_same at to))
 
 -- WHICH CALLS TAKE MEMORY: no other answers that there is none

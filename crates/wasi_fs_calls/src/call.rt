@@ -1,5 +1,6 @@
 //! Calls on descriptors, without the descriptors that they are made on.
 
+use wasi_base::Text;
 use wasi_fs_types::{Advice, DescriptorFlags, NewTimestamp, OpenFlags, PathFlags};
 
 /// A call on one descriptor. A path begins at the descriptor, which is then a directory.
@@ -27,7 +28,7 @@ pub enum DescriptorCall {
     /// `set-times-at`
     SetTimesAt {
         flags: PathFlags,
-        path: String,
+        path: Text,
         access: NewTimestamp,
         modified: NewTimestamp,
     },
@@ -37,45 +38,45 @@ pub enum DescriptorCall {
     SyncData,
     /// `create-directory-at`
     CreateDirectoryAt {
-        path: String,
+        path: Text,
     },
     /// `stat`
     Stat,
     /// `stat-at`
     StatAt {
         flags: PathFlags,
-        path: String,
+        path: Text,
     },
     /// `open-at`: the one call that makes a descriptor.
     OpenAt {
         flags: PathFlags,
-        path: String,
+        path: Text,
         how: OpenFlags,
         mode: DescriptorFlags,
     },
     /// `readlink-at`
     ReadlinkAt {
-        path: String,
+        path: Text,
     },
     /// `remove-directory-at`
     RemoveDirectoryAt {
-        path: String,
+        path: Text,
     },
     /// `symlink-at`: a link of this text.
     SymlinkAt {
-        text: String,
-        path: String,
+        text: Text,
+        path: Text,
     },
     /// `unlink-file-at`
     UnlinkFileAt {
-        path: String,
+        path: Text,
     },
     /// `metadata-hash`
     MetadataHash,
     /// `metadata-hash-at`
     MetadataHashAt {
         flags: PathFlags,
-        path: String,
+        path: Text,
     },
 }
 
@@ -85,13 +86,13 @@ pub enum PairCall {
     /// `link-at`: what the first path names gets the second one's name too.
     LinkAt {
         flags: PathFlags,
-        path: String,
-        to_path: String,
+        path: Text,
+        to_path: Text,
     },
     /// `rename-at`: what the first path names takes the place of the second.
     RenameAt {
-        path: String,
-        to_path: String,
+        path: Text,
+        to_path: Text,
     },
     /// `is-same-object`
     IsSameObject,

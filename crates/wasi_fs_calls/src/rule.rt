@@ -90,29 +90,50 @@ pub fn answer(
             path,
             access,
             modified,
-        } => done(tree.set_times_at(at, *flags, path, *access, *modified, now)),
+        } => done(tree.set_times_at(at, *flags, path.as_str(), *access, *modified, now)),
         DescriptorCall::Sync => done(tree.sync(at)),
         DescriptorCall::SyncData => done(tree.sync_data(at)),
-        DescriptorCall::CreateDirectoryAt { path } => done(tree.create_directory_at(at, path, now)),
+        DescriptorCall::CreateDirectoryAt { path } => done(tree.create_directory_at(
+            at,
+            path.as_str(),
+            now,
+        )),
         DescriptorCall::Stat => told(tree.stat(at).map(DescriptorTold::Stat)),
         DescriptorCall::StatAt { flags, path } => {
-            told(tree.stat_at(at, *flags, path).map(DescriptorTold::Stat))
+            told(
+                tree.stat_at(at, *flags, path.as_str())
+                    .map(DescriptorTold::Stat),
+            )
         }
         DescriptorCall::OpenAt {
             flags,
             path,
             how,
             mode,
-        } => opened(tree.open_at(at, *flags, path, *how, *mode, now, blocking)),
+        } => opened(tree.open_at(at, *flags, path.as_str(), *how, *mode, now, blocking)),
         DescriptorCall::ReadlinkAt { path } => {
-            told(tree.readlink_at(at, path).map(DescriptorTold::Text))
+            told(
+                tree.readlink_at(at, path.as_str())
+                    .map(DescriptorTold::Text),
+            )
         }
-        DescriptorCall::RemoveDirectoryAt { path } => done(tree.remove_directory_at(at, path)),
-        DescriptorCall::SymlinkAt { text, path } => done(tree.symlink_at(at, text, path, now)),
-        DescriptorCall::UnlinkFileAt { path } => done(tree.unlink_file_at(at, path)),
+        DescriptorCall::RemoveDirectoryAt { path } => done(tree.remove_directory_at(
+            at,
+            path.as_str(),
+        )),
+        DescriptorCall::SymlinkAt { text, path } => done(tree.symlink_at(
+            at,
+            text.as_str(),
+            path.as_str(),
+            now,
+        )),
+        DescriptorCall::UnlinkFileAt { path } => done(tree.unlink_file_at(at, path.as_str())),
         DescriptorCall::MetadataHash => told(tree.metadata_hash(at).map(hash_told)),
         DescriptorCall::MetadataHashAt { flags, path } => {
-            told(tree.metadata_hash_at(at, *flags, path).map(hash_told))
+            told(
+                tree.metadata_hash_at(at, *flags, path.as_str())
+                    .map(hash_told),
+            )
         }
     }
 }
@@ -159,8 +180,14 @@ pub fn answer_pair(
             flags,
             path,
             to_path,
-        } => done(tree.link_at(at, *flags, path, to, to_path)),
-        PairCall::RenameAt { path, to_path } => done(rename(tree, at, path, to, to_path)),
+        } => done(tree.link_at(at, *flags, path.as_str(), to, to_path.as_str())),
+        PairCall::RenameAt { path, to_path } => done(rename(
+            tree,
+            at,
+            path.as_str(),
+            to,
+            to_path.as_str(),
+        )),
         PairCall::IsSameObject => told(tree.is_same_object(at, to).map(DescriptorTold::Truth)),
     }
 }

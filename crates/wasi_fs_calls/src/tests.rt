@@ -14,6 +14,7 @@ use bitflags::Flags;
 use std::alloc::Global;
 use std::process::Abort;
 use std::test::Fail;
+use wasi_base::Text;
 use wasi_clocks::{Datetime, WallTime};
 use wasi_fs::{Descriptor, Tree};
 use wasi_fs_types::{DescriptorFlags, DescriptorStat, FsPerms, OpenFlags, PathFlags};
@@ -48,8 +49,8 @@ fn read_only_root_of(tree: &Tree) -> Descriptor
     Descriptor::Dir(root)
 }
 
-fn owned(rt: &impl Abort, alloc: Global, text: &str) -> String {
-    String::from_str(alloc, text).expect(rt, "memory for a text")
+fn owned(rt: &impl Abort, alloc: Global, text: &str) -> Text {
+    Text::from_str(alloc, text).expect(rt, "memory for a text")
 }
 
 /// The answer of a call; it is given with ample memory.

@@ -9,8 +9,8 @@ use crate::content::Content;
 use crate::names::Names;
 use crate::node::{Body, Kind, Node, Times};
 use crate::nodes::Nodes;
-use crate::text::Text;
 use crate::{At, StoreError};
+use wasi_base::Text;
 use wasi_clocks::Datetime;
 use wasi_fs_types::ErrorCode;
 
@@ -119,7 +119,7 @@ impl Nodes {
         if let Err(code) = self.may_make(dir, name, 0) {
             return Err(StoreError::Code(code));
         }
-        let Ok(text) = Text::copy_of(self.alloc, text) else {
+        let Ok(text) = Text::from_str(self.alloc, text) else {
             return Err(StoreError::OutOfMemory);
         };
         let node = Node {

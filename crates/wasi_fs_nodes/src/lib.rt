@@ -16,7 +16,6 @@ mod stats;
 mod store_error;
 #[cfg(test)]
 mod tests;
-mod text;
 
 pub use at::At;
 pub use content::{Content, read_bytes, write_bytes};
@@ -26,4 +25,3 @@ pub use node::{Body, Kind, Node, Times};
 pub use nodes::Nodes;
 pub use stats::{Entry, Stat};
 pub use store_error::StoreError;
-pub use text::Text;

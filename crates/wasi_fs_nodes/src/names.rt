@@ -4,10 +4,10 @@ ghost use Rattle.wasi_fs_nodes.specs.Names.{IsAscending, has_no_names, entry_of,
 ghost use Rattle.wasi_fs_nodes.specs.Stats.{pairs_of};
 
 use crate::stats::Entry;
-use crate::text::Text;
 use std::alloc::{AllocError, Global};
 use std::collections::BTreeMap;
 use std::marker::Model;
+use wasi_base::{OutOfMemory, Text};
 
 /// The names in a directory, each with its node. Contracts see them as a list, ascending by the
 /// names' bytes.
@@ -69,13 +69,13 @@ impl Names {
     }
 
     /// A copy of the names in their order, each with its node.
-    pub(crate) fn list(&self, alloc: Global) -> Result<Vec<Entry>, AllocError>
+    pub(crate) fn list(&self, alloc: Global) -> Result<Vec<Entry>, OutOfMemory>
         ensures entries { IfOk result (λ entries. pairs_of entries.items ≡ self.now) }
         ensures ascending { IfOk result (λ entries. IsAscending (keys_of (pairs_of entries.items))) }
     {
         let mut entries = Vec::with_capacity(alloc, self.map.len())?;
         for (name, node) in self.map.iter() {
-            let name = Text::copy_of(alloc, name.as_str())?;
+            let name = Text::from_str(alloc, name.as_str())?;
             entries.push(Entry { name, node: *node })?;
         }
         Ok(entries)

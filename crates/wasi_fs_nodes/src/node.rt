@@ -9,8 +9,8 @@ ghost use Rattle.wasi_fs_nodes.specs.Bodies.{body_with_name, body_with_other, bo
 use crate::content::Content;
 use crate::names::Names;
 use crate::stats::Entry;
-use crate::text::Text;
 use std::alloc::{AllocError, Global};
+use wasi_base::{OutOfMemory, Text};
 use wasi_clocks::Datetime;
 
 /// What a node is.
@@ -104,7 +104,7 @@ impl Body {
 
     /// A copy of the names in their order; a file and a link have none.
     #[tactic(auto, using(crate::proofs::EntryFacts::no_names_ascend))]
-    pub(crate) fn list(&self, alloc: Global) -> Result<Vec<Entry>, AllocError>
+    pub(crate) fn list(&self, alloc: Global) -> Result<Vec<Entry>, OutOfMemory>
         ensures entries { IfOk result (λ entries. pairs_of entries.items ≡ names_in self.now) }
         ensures ascending { IfOk result (λ entries. IsAscending (keys_of (pairs_of entries.items))) }
     {

@@ -215,10 +215,7 @@ impl Nodes {
     {
         match self.rows.get(dir as usize) {
             None => Ok(Vec::new(self.alloc)),
-            Some(row) => match row.node.body.list(self.alloc) {
-                Ok(entries) => Ok(entries),
-                Err(_) => Err(OutOfMemory),
-            },
+            Some(row) => row.node.body.list(self.alloc),
         }
     }
 }

@@ -1,5 +1,5 @@
 use crate::node::{Kind, Times};
-use crate::text::Text;
+use wasi_base::Text;
 
 /// What is told of a node.
 #[derive(Clone, Copy, PartialEq, Eq, Debug, Drop)]

@@ -3,7 +3,6 @@
 #![tactic(auto)]
 
 mod convert;
-mod cwd_text;
 mod descriptor;
 mod error_code;
 mod flags;
@@ -11,9 +10,9 @@ pub mod p3;
 #[cfg(test)]
 mod tests;
 
-pub use cwd_text::CwdText;
 pub use descriptor::{
     Advice, DescriptorStat, DescriptorType, FsPerms, MetadataHashValue, NewTimestamp,
 };
 pub use error_code::{ErrorCode, FilesystemError, FilesystemResult};
 pub use flags::{DescriptorFlags, OpenFlags, OpenMode, PathFlags};
+pub use wasi_base::Text as CwdText;

@@ -19,8 +19,6 @@ use Rattle.wasi_stdin.specs.laws.Kept.{asked_any, asked_none, asked_at}
 use Rattle.wasi_script.specs.declared.lines.Access.{Access}
 use Rattle.wasi_script.specs.declared.lines.Access.TheVariants as access
 use Rattle.wasi_script.specs.declared.lines.Standard.TheVariants as standard
-use Rattle.wasi_script.specs.declared.lines.Setting.{Setting}
-use Rattle.wasi_script.specs.declared.lines.Setting.TheVariants as setting
 use Rattle.wasi_script.specs.declared.lines.EntryCall.{EntryCall}
 use Rattle.wasi_script.specs.declared.lines.EntryCall.TheVariants as on
 use Rattle.wasi_script.specs.declared.lines.Call.{Call}
@@ -35,7 +33,7 @@ use Rattle.wasi_reply.specs.declared.reply.Worked.{Worked}
 use Rattle.wasi_reply.specs.declared.reply.Reply.{Reply}
 use Rattle.wasi_reply.specs.declared.reply.Reply.TheVariants as reply
 use Rattle.wasi_reply.specs.Reply.{ends}
-use Rattle.wasi_host.specs.Run.{Standing, Reader, Polled, Pollable, Sharing, at_number, at_start, without_guest, with_standing, without_standing, held_count, after_row, read_row, poll_row, fault_to_read, ReadRule, SkipRule, counted, is_over, PollRule, after_ready_row, ReadyRule, wait_row, WaitedRule, BlockRule, Tells, MakeRule, is_full, EntryRule, DropRule, OpenRule, opened_standing, CallRule, live_after, left_by, EndedRule, size_captured, CaptureRule, delivery_answer, delivered_row, DeliverRule, WorkerRule, setting_row, is_shared, Rule, IsRun}
+use Rattle.wasi_host.specs.Run.{Standing, Reader, Polled, Pollable, Sharing, at_number, at_start, without_guest, with_standing, without_standing, held_count, after_row, read_row, poll_row, fault_to_read, ReadRule, SkipRule, counted, is_over, PollRule, after_ready_row, ReadyRule, wait_row, WaitedRule, BlockRule, Tells, MakeRule, is_full, EntryRule, DropRule, OpenRule, opened_standing, CallRule, live_after, left_by, EndedRule, size_captured, CaptureRule, delivery_answer, delivered_row, DeliverRule, WorkerRule, with_share, is_shared, Rule, IsRun}
 use Rattle.wasi_host.specs.Sound.{HoldsCount, IsWaitIn, WaitsIn, SoundIn, IsSoundRun, RunsAreSound, IsNoDelivery, RunsKeepRequests, faults_in, entry_faults, call_faults, step_faults, faults_told, fault_worked, delivered_fault, faults_delivered, RunsTellOnce}
 
 -- ---- families of values by a number
@@ -155,6 +153,7 @@ block_sound (Some since) s g n parent answer s' sound h = waited_sound (nat_lt s
 by_told : (P : Answer → Type 0) (Q : Type 0) (answer : Reply) → ((it : Answer) → answer ≡ reply.Told it → P it → Q) → Tells P answer → Q
 by_told P Q (reply.Told it) then h = then it refl h
 by_told P Q (reply.Handle n) then h = absurd h
+by_told P Q (reply.Directories rows) then h = absurd h
 by_told P Q reply.Ended then h = absurd h
 by_told P Q (reply.Worked it) then h = absurd h
 
@@ -186,11 +185,11 @@ open_sound : (shares : Bool) (how : Access) (s : Sharing) (g : ℕ) (answer : Re
 open_sound true how s g answer s' sound h = make_sound (is_full s g) (opened_standing how) s g answer s' sound (opened_waits how s.mode s.deliveries) h
 open_sound false how s g answer s' sound h = subst IsSoundRun (sym h) sound
 
-call_sound : (c : Call) (input : List ℕ) (s : Sharing) (g : ℕ) (answer : Reply) (s' : Sharing) → IsSoundRun s → CallRule c input s g answer s' → IsSoundRun s'
-call_sound (call.Open standard.Input how) input s g answer s' sound h = open_sound (s.shares g) how s g answer s' sound h
-call_sound (call.On n it) input s g answer s' sound h = entry_sound (s.standing g n) it input s g n answer s' sound h
-call_sound (call.Drop n) input s g answer s' sound h = drop_sound (s.standing g n) s g n answer s' sound h
-call_sound other input s g answer s' sound h = subst IsSoundRun (sym h) sound
+call_sound : (c : Call) (input : List ℕ) (s : Sharing) (g : ℕ) (of : Option ℕ) (answer : Reply) (s' : Sharing) → IsSoundRun s → CallRule c input s g of answer s' → IsSoundRun s'
+call_sound (call.Open standard.Input how) input s g of answer s' sound h = open_sound (s.shares g of) how s g answer s' sound h
+call_sound (call.On n it) input s g of answer s' sound h = entry_sound (s.standing g n) it input s g n answer s' sound h
+call_sound (call.Drop n) input s g of answer s' sound h = drop_sound (s.standing g n) s g n answer s' sound h
+call_sound other input s g of answer s' sound h = subst IsSoundRun (sym h) sound
 
 left_sound : (c : Call) (g : ℕ) (answer : Reply) (s : Sharing) → IsSoundRun s → IsSoundRun (left_by c g answer s)
 left_sound c g answer s sound =
@@ -198,9 +197,9 @@ left_sound c g answer s sound =
     (record { within = sound.within; holds = sound.holds; captures = sound.captures; waits = no_guest s.mode s.deliveries s.standing g sound.waits })
     (record { within = sound.within; holds = sound.holds; captures = sound.captures; waits = sound.waits })
 
-ended_sound : (ended : Bool) (c : Call) (input : List ℕ) (s : Sharing) (g : ℕ) (answer : Reply) (s' : Sharing) → IsSoundRun s → EndedRule ended c input s g answer s' → IsSoundRun s'
-ended_sound true c input s g answer s' sound h = subst IsSoundRun (sym h.1) sound
-ended_sound false c input s g answer s' sound h = subst IsSoundRun (sym h.3) (left_sound c g answer h.1 (call_sound c input s g answer h.1 sound h.2))
+ended_sound : (ended : Bool) (c : Call) (input : List ℕ) (s : Sharing) (g : ℕ) (of : Option ℕ) (answer : Reply) (s' : Sharing) → IsSoundRun s → EndedRule ended c input s g of answer s' → IsSoundRun s'
+ended_sound true c input s g of answer s' sound h = subst IsSoundRun (sym h.1) sound
+ended_sound false c input s g of answer s' sound h = subst IsSoundRun (sym h.3) (left_sound c g answer h.1 (call_sound c input s g of answer h.1 sound h.2))
 
 -- ---- the worker
 capture_sound : (m : Mode) (c : Option ℕ) (s : Sharing) (answer : Worked) (s' : Sharing) → s.mode ≡ m → IsSoundRun s → CaptureRule (size_captured m c) s answer s' → IsSoundRun s'
@@ -247,14 +246,11 @@ worker_sound turn.Capture s answer s' sound h = capture_sound s.mode s.captured 
 worker_sound turn.Deliver s answer s' sound h = deliver_sound s.captured s answer s' refl sound h
 
 -- ---- a step and a run
-setting_sound : (it : Setting) (g : ℕ) (s : Sharing) → IsSoundRun s → IsSoundRun (setting_row it g s)
-setting_sound (setting.Capacity capacity) g s sound = record { within = sound.within; holds = sound.holds; captures = sound.captures; waits = sound.waits }
-setting_sound other g s sound = sound
-
 step_sound : (input : List ℕ) (s : Sharing) (step : Line) (answer : Reply) (s' : Sharing) → IsSoundRun s → Rule input s step answer s' → IsSoundRun s'
 step_sound input s (line.Guest g it) answer s' sound h = subst IsSoundRun (sym h.1) (record { within = sound.within; holds = sound.holds; captures = sound.captures; waits = sound.waits })
-step_sound input s (line.Configure g it) answer s' sound h = subst IsSoundRun (sym h.1) (setting_sound it g s sound)
-step_sound input s (line.Call g c) answer s' sound h = ended_sound (s.ended g) c input s g answer s' sound h
+step_sound input s (line.Context g id it) answer s' sound h = subst IsSoundRun (sym h.1) (record { within = sound.within; holds = sound.holds; captures = sound.captures; waits = sound.waits })
+step_sound input s (line.Capacity g capacity) answer s' sound h = subst IsSoundRun (sym h.1) (record { within = sound.within; holds = sound.holds; captures = sound.captures; waits = sound.waits })
+step_sound input s (line.Call caller c) answer s' sound h = ended_sound (s.ended caller.guest) c input s caller.guest caller.named answer s' sound h
 step_sound input s (line.Worker it) answer s' sound h = worker_sound it s h.0 s' sound h.2
 step_sound input s (line.Turn it) answer s' sound h = subst IsSoundRun (sym h) sound
 step_sound input s other answer s' sound h = subst IsSoundRun (sym h.1) sound
@@ -333,18 +329,18 @@ open_asks : (shares : Bool) (how : Access) (s : Sharing) (g n : ℕ) (answer : R
 open_asks true how s g n answer s' e h = make_asks (is_full s g) (opened_standing how) s g n answer s' e h
 open_asks false how s g n answer s' e h = subst (Asks s n) (sym h) (asks_still s n e)
 
-call_asks : (c : Call) (input : List ℕ) (s : Sharing) (g n : ℕ) (answer : Reply) (s' : Sharing) → s.mode ≡ Asked n → CallRule c input s g answer s' → Asks s n s'
-call_asks (call.Open standard.Input how) input s g n answer s' e h = open_asks (s.shares g) how s g n answer s' e h
-call_asks (call.On at it) input s g n answer s' e h = entry_asks (s.standing g at) it input s g at n answer s' e h
-call_asks (call.Drop at) input s g n answer s' e h = drop_asks (s.standing g at) s g at n answer s' e h
-call_asks other input s g n answer s' e h = subst (Asks s n) (sym h) (asks_still s n e)
+call_asks : (c : Call) (input : List ℕ) (s : Sharing) (g n : ℕ) (of : Option ℕ) (answer : Reply) (s' : Sharing) → s.mode ≡ Asked n → CallRule c input s g of answer s' → Asks s n s'
+call_asks (call.Open standard.Input how) input s g n of answer s' e h = open_asks (s.shares g of) how s g n answer s' e h
+call_asks (call.On at it) input s g n of answer s' e h = entry_asks (s.standing g at) it input s g at n answer s' e h
+call_asks (call.Drop at) input s g n of answer s' e h = drop_asks (s.standing g at) s g at n answer s' e h
+call_asks other input s g n of answer s' e h = subst (Asks s n) (sym h) (asks_still s n e)
 
 left_asks : (c : Call) (g n : ℕ) (answer : Reply) (before s : Sharing) → Asks before n s → Asks before n (left_by c g answer s)
 left_asks c g n answer before s asks = put_all (Asks before n) (ends answer) (without_guest s g) (record s { live = at_number s.live g (live_after c answer (s.live g)) }) asks asks
 
-ended_asks : (ended : Bool) (c : Call) (input : List ℕ) (s : Sharing) (g n : ℕ) (answer : Reply) (s' : Sharing) → s.mode ≡ Asked n → EndedRule ended c input s g answer s' → Asks s n s'
-ended_asks true c input s g n answer s' e h = subst (Asks s n) (sym h.1) (asks_still s n e)
-ended_asks false c input s g n answer s' e h = subst (Asks s n) (sym h.3) (left_asks c g n answer s h.1 (call_asks c input s g n answer h.1 e h.2))
+ended_asks : (ended : Bool) (c : Call) (input : List ℕ) (s : Sharing) (g n : ℕ) (of : Option ℕ) (answer : Reply) (s' : Sharing) → s.mode ≡ Asked n → EndedRule ended c input s g of answer s' → Asks s n s'
+ended_asks true c input s g n of answer s' e h = subst (Asks s n) (sym h.1) (asks_still s n e)
+ended_asks false c input s g n of answer s' e h = subst (Asks s n) (sym h.3) (left_asks c g n answer s h.1 (call_asks c input s g n of answer h.1 e h.2))
 
 -- no second size is captured
 capture_asks : (m : Mode) (c : Option ℕ) (size : ℕ) (s : Sharing) (n : ℕ) (answer : Worked) (s' : Sharing) → c ≡ Some size → s.mode ≡ Asked n → CaptureRule (size_captured m c) s answer s' → Asks s n s'
@@ -355,14 +351,11 @@ capture_asks Held c size s n answer s' held e h = subst (Asks s n) (sym h.1) (as
 capture_asks (Failed kind) c size s n answer s' held e h = subst (Asks s n) (sym h.1) (asks_still s n e)
 capture_asks Closed c size s n answer s' held e h = subst (Asks s n) (sym h.1) (asks_still s n e)
 
-setting_asks : (it : Setting) (g : ℕ) (s : Sharing) (n : ℕ) → s.mode ≡ Asked n → Asks s n (setting_row it g s)
-setting_asks (setting.Capacity capacity) g s n e = asks_still s n e
-setting_asks other g s n e = asks_still s n e
-
 step_asks : (input : List ℕ) (s : Sharing) (step : Line) (answer : Reply) (s' : Sharing) (size n : ℕ) → s.captured ≡ Some size → s.mode ≡ Asked n → IsNoDelivery step → Rule input s step answer s' → Asks s n s'
 step_asks input s (line.Guest g it) answer s' size n held e none h = subst (Asks s n) (sym h.1) (asks_still s n e)
-step_asks input s (line.Configure g it) answer s' size n held e none h = subst (Asks s n) (sym h.1) (setting_asks it g s n e)
-step_asks input s (line.Call g c) answer s' size n held e none h = ended_asks (s.ended g) c input s g n answer s' e h
+step_asks input s (line.Context g id it) answer s' size n held e none h = subst (Asks s n) (sym h.1) (asks_still s n e)
+step_asks input s (line.Capacity g capacity) answer s' size n held e none h = subst (Asks s n) (sym h.1) (asks_still s n e)
+step_asks input s (line.Call caller c) answer s' size n held e none h = ended_asks (s.ended caller.guest) c input s caller.guest n caller.named answer s' e h
 step_asks input s (line.Worker turn.Capture) answer s' size n held e none h = capture_asks s.mode s.captured size s n h.0 s' held e h.2
 step_asks input s (line.Worker turn.Deliver) answer s' size n held e none h = absurd none
 step_asks input s (line.Turn it) answer s' size n held e none h = subst (Asks s n) (sym h) (asks_still s n e)
@@ -480,18 +473,18 @@ open_tallies : (shares : Bool) (how : Access) (s : Sharing) (g : ℕ) (answer : 
 open_tallies true how s g answer s' h = make_tallies (is_full s g) (opened_standing how) s g answer s' h
 open_tallies false how s g answer s' h = silent s s' s h refl
 
-call_tallies : (c : Call) (input : List ℕ) (s : Sharing) (g : ℕ) (answer : Reply) (s' : Sharing) → CallRule c input s g answer s' → Tallies (call_faults false c s g answer) 0 s s'
-call_tallies (call.Open standard.Input how) input s g answer s' h = open_tallies (s.shares g) how s g answer s' h
-call_tallies (call.On at it) input s g answer s' h = entry_tallies (s.standing g at) it input s g at answer s' h
-call_tallies (call.Drop at) input s g answer s' h = drop_tallies (s.standing g at) s g at answer s' h
-call_tallies other input s g answer s' h = silent s s' s h refl
+call_tallies : (c : Call) (input : List ℕ) (s : Sharing) (g : ℕ) (of : Option ℕ) (answer : Reply) (s' : Sharing) → CallRule c input s g of answer s' → Tallies (call_faults false c s g answer) 0 s s'
+call_tallies (call.Open standard.Input how) input s g of answer s' h = open_tallies (s.shares g of) how s g answer s' h
+call_tallies (call.On at it) input s g of answer s' h = entry_tallies (s.standing g at) it input s g at answer s' h
+call_tallies (call.Drop at) input s g of answer s' h = drop_tallies (s.standing g at) s g at answer s' h
+call_tallies other input s g of answer s' h = silent s s' s h refl
 
 left_untold : (c : Call) (g : ℕ) (answer : Reply) (s : Sharing) → untold (left_by c g answer s).mode ≡ untold s.mode
 left_untold c g answer s = put_all (λ (after : Sharing). untold after.mode ≡ untold s.mode) (ends answer) (without_guest s g) (record s { live = at_number s.live g (live_after c answer (s.live g)) }) refl refl
 
-ended_tallies : (ended : Bool) (c : Call) (input : List ℕ) (s : Sharing) (g : ℕ) (answer : Reply) (s' : Sharing) → EndedRule ended c input s g answer s' → Tallies (call_faults ended c s g answer) 0 s s'
-ended_tallies true c input s g answer s' h = silent s s' s h.1 refl
-ended_tallies false c input s g answer s' h = rw h.3 (omega (arith, call_tallies c input s g answer h.1 h.2, left_untold c g answer h.1))
+ended_tallies : (ended : Bool) (c : Call) (input : List ℕ) (s : Sharing) (g : ℕ) (of : Option ℕ) (answer : Reply) (s' : Sharing) → EndedRule ended c input s g of answer s' → Tallies (call_faults ended c s g answer) 0 s s'
+ended_tallies true c input s g of answer s' h = silent s s' s h.1 refl
+ended_tallies false c input s g of answer s' h = rw h.3 (omega (arith, call_tallies c input s g of answer h.1 h.2, left_untold c g answer h.1))
 
 capture_tallies : (size : Option ℕ) (s : Sharing) (answer : Worked) (s' : Sharing) → CaptureRule size s answer s' → Tallies 0 (fault_worked (reply.Worked answer)) s s'
 capture_tallies None s answer s' h = rw h.1 (omega arith)
@@ -510,14 +503,11 @@ worker_tallies : (it : WorkerTurn) (s : Sharing) (answer : Worked) (s' : Sharing
 worker_tallies turn.Capture s answer s' h = capture_tallies (size_captured s.mode s.captured) s answer s' h
 worker_tallies turn.Deliver s answer s' h = deliver_tallies s.captured s answer s' h
 
-setting_untold : (it : Setting) (g : ℕ) (s : Sharing) → untold (setting_row it g s).mode ≡ untold s.mode
-setting_untold (setting.Capacity capacity) g s = refl
-setting_untold other g s = refl
-
 step_tallies : (input : List ℕ) (s : Sharing) (step : Line) (answer : Reply) (s' : Sharing) → Rule input s step answer s' → Tallies (step_faults s step answer) (delivered_fault step answer) s s'
-step_tallies input s (line.Guest g it) answer s' h = silent s s' (record s { shares = at_number s.shares g (is_shared it) }) h.1 refl
-step_tallies input s (line.Configure g it) answer s' h = silent s s' (setting_row it g s) h.1 (setting_untold it g s)
-step_tallies input s (line.Call g c) answer s' h = ended_tallies (s.ended g) c input s g answer s' h
+step_tallies input s (line.Guest g it) answer s' h = silent s s' (record s { shares = at_number s.shares g (λ of. is_shared it) }) h.1 refl
+step_tallies input s (line.Context g id it) answer s' h = silent s s' (with_share s g id (is_shared it)) h.1 refl
+step_tallies input s (line.Capacity g capacity) answer s' h = silent s s' (record s { capacity = at_number s.capacity g capacity }) h.1 refl
+step_tallies input s (line.Call caller c) answer s' h = ended_tallies (s.ended caller.guest) c input s caller.guest caller.named answer s' h
 step_tallies input s (line.Worker it) answer s' h = rw h.1 (worker_tallies it s h.0 s' h.2)
 step_tallies input s (line.Turn it) answer s' h = silent s s' s h refl
 step_tallies input s other answer s' h = silent s s' s h.1 refl

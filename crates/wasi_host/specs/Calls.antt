@@ -1,5 +1,5 @@
 -- What each call asks to be done, and what it leaves of what its entry is on: a rule of its own for each kind of entry.
--- A rule sees no more than what its entry is on, and none gives back its guest's settings.
+-- A rule sees no more than what its entry is on, and the settings of the context that is called; none gives them back.
 use Rattle.std.specs.Prelude.{ℕ, Bool, true, false, cond, List, Option, Some, None, Result, Ok, Err}
 use Rattle.wasi_base.specs.declared.polled.Polled.{Polled as Poll}
 use Rattle.wasi_base.specs.declared.polled.Polled.TheVariants as polled
@@ -42,8 +42,9 @@ use Rattle.wasi_host.specs.declared.stream.InStream.TheVariants as in_stream
 use Rattle.wasi_host.specs.declared.stream.OutStream.{OutStream}
 use Rattle.wasi_host.specs.declared.stream.OutStream.TheVariants as out_stream
 use Rattle.wasi_host.specs.declared.deed.Deed.{Deed}
-use Rattle.wasi_host.specs.declared.deed.Deed.TheVariants.{Tell, Make, Change}
+use Rattle.wasi_host.specs.declared.deed.Deed.TheVariants.{Tell, Make, MakeEach, Change}
 use Rattle.wasi_host.specs.Deeds.{Own}
+use Rattle.wasi_host.specs.Preopens.{directories}
 use Rattle.wasi_host.specs.Clocks.{Clocks, time_told, instant_told, count_told}
 pub use Rattle.wasi_host.specs.declared.settings.Settings.{Settings}
 pub use Rattle.wasi_cli.specs.declared.owner.Owner.{Owner}
@@ -101,7 +102,7 @@ poll_told tell (polled.Failed kind) = told.Failed kind
 abbrev pub is_done : Unit {0} → Told
 is_done done = told.Ok
 
--- ---- a guest opens one of its standard streams: the new entry says what it is on
+-- ---- a guest opens a standard stream of one of its contexts: the new entry says what it is on
 abbrev pub shared_entry : Access → SharedEntry
 shared_entry access.Plain = Reader
 shared_entry access.Polled = Polled None
@@ -110,10 +111,10 @@ abbrev pub stream_entry : Access → StreamEntry
 stream_entry access.Plain = on.Plain
 stream_entry access.Polled = on.Polled (record { handle = Ready; flushing = false })
 
-abbrev pub opened : Input → Standard → Access → Entry
-opened input.Shared standard.Input how = entry.Shared (shared_entry how)
-opened input.Terminal standard.Input how = entry.Shared (shared_entry how)
-opened other it how = entry.Stream it (stream_entry how)
+abbrev pub opened : Input → Option ℕ → Standard → Access → Entry
+opened input.Shared context standard.Input how = entry.Shared (shared_entry how)
+opened input.Terminal context standard.Input how = entry.Shared (shared_entry how)
+opened other context it how = entry.Stream context it (stream_entry how)
 
 -- ---- .. or it asks for the terminal that one of them is
 abbrev pub in_terminal : Input → Bool
@@ -147,38 +148,38 @@ asked call.Block at (Pollable wait) s = doing (Change at.number (entry.Shared (P
 asked other at it s = doing mistaken s
 
 -- ---- calls on an input; a poll of one that guests share by turns keeps its handle in its entry
-abbrev pub polled_read : Owner → StdoutHandle → InStream → ℕ → Doing InStream
-polled_read at handle (in_stream.Async it) room = let poll = shared_poll_read handle.handle at it room in doing (Change at.number (entry.Stream standard.Input (on.Polled (record handle { handle = poll.handle }))) (poll_told told.Bytes poll.answer)) (in_stream.Async (poll_left poll))
-polled_read at handle other room = doing (Tell (poll_told told.Bytes (input_poll_read other room))) (after_input_poll_read other room)
+abbrev pub polled_read : Option ℕ → Owner → StdoutHandle → InStream → ℕ → Doing InStream
+polled_read context at handle (in_stream.Async it) room = let poll = shared_poll_read handle.handle at it room in doing (Change at.number (entry.Stream context standard.Input (on.Polled (record handle { handle = poll.handle }))) (poll_told told.Bytes poll.answer)) (in_stream.Async (poll_left poll))
+polled_read context at handle other room = doing (Tell (poll_told told.Bytes (input_poll_read other room))) (after_input_poll_read other room)
 
-abbrev pub called : EntryCall → Owner → StreamEntry → InStream → Doing InStream
-called (call.Read size) at on.Plain s = doing (Tell (result_told told.Bytes (input_read s size))) (after_input_read s size)
-called (call.Skip size) at on.Plain s = doing (Tell (result_told told.Count (input_skip s size))) (after_input_read s size)
-called call.Subscribe at on.Plain s = doing (Make (entry.Stream standard.Input on.Pollable) (Some at.number)) s
-called (call.PollRead room) at (on.Polled handle) s = polled_read at handle s room
-called call.Ready at on.Pollable s = doing (Tell (told.Truth (input_is_ready s))) s
-called call.Block at on.Pollable s = doing (Tell (told.Truth (input_block s at))) (after_input_block s at)
-called other at it s = doing mistaken s
+abbrev pub called : EntryCall → Option ℕ → Owner → StreamEntry → InStream → Doing InStream
+called (call.Read size) context at on.Plain s = doing (Tell (result_told told.Bytes (input_read s size))) (after_input_read s size)
+called (call.Skip size) context at on.Plain s = doing (Tell (result_told told.Count (input_skip s size))) (after_input_read s size)
+called call.Subscribe context at on.Plain s = doing (Make (entry.Stream context standard.Input on.Pollable) (Some at.number)) s
+called (call.PollRead room) context at (on.Polled handle) s = polled_read context at handle s room
+called call.Ready context at on.Pollable s = doing (Tell (told.Truth (input_is_ready s))) s
+called call.Block context at on.Pollable s = doing (Tell (told.Truth (input_block s at))) (after_input_block s at)
+called other context at it s = doing mistaken s
 
 -- ---- calls on an output, whose polls are like those of an input
-abbrev pub polled_write : Standard → Owner → StdoutHandle → OutStream → List ℕ → Doing OutStream
-polled_write to at handle (out_stream.Buffered it) bytes = let poll = write_poll handle at it.turn it.stream bytes in doing (Change at.number (entry.Stream to (on.Polled poll.handle)) (poll_told told.Count poll.answer)) (out_stream.Buffered (poll_left poll))
-polled_write to at handle other bytes = doing (Tell (poll_told told.Count (output_poll_write other bytes))) (after_output_poll_write other bytes)
+abbrev pub polled_write : Option ℕ → Standard → Owner → StdoutHandle → OutStream → List ℕ → Doing OutStream
+polled_write context to at handle (out_stream.Buffered it) bytes = let poll = write_poll handle at it.turn it.stream bytes in doing (Change at.number (entry.Stream context to (on.Polled poll.handle)) (poll_told told.Count poll.answer)) (out_stream.Buffered (poll_left poll))
+polled_write context to at handle other bytes = doing (Tell (poll_told told.Count (output_poll_write other bytes))) (after_output_poll_write other bytes)
 
-abbrev pub polled_flush : Standard → Owner → StdoutHandle → OutStream → Doing OutStream
-polled_flush to at handle (out_stream.Buffered it) = let poll = flush_poll handle at it.turn it.stream in doing (Change at.number (entry.Stream to (on.Polled poll.handle)) (poll_told is_done poll.answer)) (out_stream.Buffered (poll_left poll))
-polled_flush to at handle other = doing (Tell (poll_told is_done (output_poll_flush other))) (after_output_poll_flush other)
+abbrev pub polled_flush : Option ℕ → Standard → Owner → StdoutHandle → OutStream → Doing OutStream
+polled_flush context to at handle (out_stream.Buffered it) = let poll = flush_poll handle at it.turn it.stream in doing (Change at.number (entry.Stream context to (on.Polled poll.handle)) (poll_told is_done poll.answer)) (out_stream.Buffered (poll_left poll))
+polled_flush context to at handle other = doing (Tell (poll_told is_done (output_poll_flush other))) (after_output_poll_flush other)
 
-abbrev pub sent : EntryCall → Standard → Owner → StreamEntry → OutStream → Doing OutStream
-sent call.CheckWrite to at on.Plain s = doing (Tell (result_told told.Count (output_check_write s))) (after_output_check_write s)
-sent (call.Write bytes) to at on.Plain s = doing (Tell (result_told is_done (output_write s bytes))) (after_output_write s bytes)
-sent call.Flush to at on.Plain s = doing (Tell (result_told is_done (output_flush s))) (after_output_flush s)
-sent call.Subscribe to at on.Plain s = doing (Make (entry.Stream to on.Pollable) (Some at.number)) s
-sent (call.PollWrite bytes) to at (on.Polled handle) s = polled_write to at handle s bytes
-sent call.PollFlush to at (on.Polled handle) s = polled_flush to at handle s
-sent call.Ready to at on.Pollable s = doing (Tell (told.Truth (output_is_ready s))) s
-sent call.Block to at on.Pollable s = doing (Tell (told.Truth (output_block s at))) (after_output_block s at)
-sent other to at it s = doing mistaken s
+abbrev pub sent : EntryCall → Option ℕ → Standard → Owner → StreamEntry → OutStream → Doing OutStream
+sent call.CheckWrite context to at on.Plain s = doing (Tell (result_told told.Count (output_check_write s))) (after_output_check_write s)
+sent (call.Write bytes) context to at on.Plain s = doing (Tell (result_told is_done (output_write s bytes))) (after_output_write s bytes)
+sent call.Flush context to at on.Plain s = doing (Tell (result_told is_done (output_flush s))) (after_output_flush s)
+sent call.Subscribe context to at on.Plain s = doing (Make (entry.Stream context to on.Pollable) (Some at.number)) s
+sent (call.PollWrite bytes) context to at (on.Polled handle) s = polled_write context to at handle s bytes
+sent call.PollFlush context to at (on.Polled handle) s = polled_flush context to at handle s
+sent call.Ready context to at on.Pollable s = doing (Tell (told.Truth (output_is_ready s))) s
+sent call.Block context to at on.Pollable s = doing (Tell (told.Truth (output_block s at))) (after_output_block s at)
+sent other context to at it s = doing mistaken s
 
 -- ---- calls on an entry that is on no stream: a poll of what its guest waits for
 abbrev pub awaited : Clocks → EntryCall → Owner → OwnEntry → Deed
@@ -210,10 +211,11 @@ abbrev pub cwd_told : Option (List ℕ) → Told
 cwd_told None = told.Absent
 cwd_told (Some cwd) = told.Cwd cwd
 
-abbrev pub owned : Clocks → OwnCall → Settings → Own → Deed
-owned clocks (own.Exit status) settings it = Tell (told.Exit (exit_status status))
-owned clocks (own.ExitCode code) settings it = Tell (told.Exit code)
-owned clocks (own.Clock call) settings it = clocked clocks call
-owned clocks own.Environment settings it = Tell (told.Environment settings.environment)
-owned clocks own.Arguments settings it = Tell (told.Arguments settings.arguments)
-owned clocks own.InitialCwd settings it = Tell (cwd_told settings.initial_cwd)
+abbrev pub owned : Clocks → OwnCall → Option ℕ → Settings → Own → Deed
+owned clocks (own.Exit status) context settings it = Tell (told.Exit (exit_status status))
+owned clocks (own.ExitCode code) context settings it = Tell (told.Exit code)
+owned clocks (own.Clock call) context settings it = clocked clocks call
+owned clocks own.Environment context settings it = Tell (told.Environment settings.environment)
+owned clocks own.Arguments context settings it = Tell (told.Arguments settings.arguments)
+owned clocks own.InitialCwd context settings it = Tell (cwd_told settings.initial_cwd)
+owned clocks own.Directories context settings it = MakeEach (directories context settings)

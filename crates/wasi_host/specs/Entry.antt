@@ -20,8 +20,9 @@ abbrev pub kind_of : Entry → ℕ
 kind_of (entry.Shared shared.Reader) = 0
 kind_of (entry.Shared (shared.Polled wait)) = 1
 kind_of (entry.Shared (shared.Pollable wait)) = 2
-kind_of (entry.Stream to it) = stream_kind to it
+kind_of (entry.Stream context to it) = stream_kind to it
 kind_of (entry.Own (own.Deadline it)) = 5
 kind_of (entry.Own (own.Wait it)) = 6
 kind_of (entry.Own (own.TerminalInput it)) = 7
 kind_of (entry.Own (own.TerminalOutput it)) = 8
+kind_of (entry.Descriptor context preopen it) = 9

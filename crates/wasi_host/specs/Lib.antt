@@ -1,4 +1,5 @@
 pub mod Entry
+pub mod Contexts
 pub mod Clocks
 pub mod Deeds
 pub mod Turns
@@ -6,7 +7,9 @@ pub mod InStreams
 pub mod OutStreams
 pub mod Sources
 pub mod Tasks
+pub mod Preopens
 pub mod Calls
+pub mod Descriptors
 pub mod Host
 pub mod Run
 pub mod Sound

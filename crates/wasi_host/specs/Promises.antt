@@ -4,13 +4,14 @@ use Rattle.std.specs.List.{AllByRecursion}
 use Rattle.std.specs.Map.{lookup}
 use Rattle.std.specs.Option.{option_map, option_and_then}
 use Rattle.std.specs.Str.{bytes_eq}
-use Rattle.wasi_base.specs.Source.{Told as Told'}
+use Rattle.wasi_base.specs.Source.{Told as Told', Given}
 use Rattle.wasi_script.specs.declared.lines.Standard.{Standard}
 use Rattle.wasi_script.specs.declared.lines.Standard.TheVariants as standard
 use Rattle.wasi_script.specs.declared.lines.EntryCall.{EntryCall}
 use Rattle.wasi_script.specs.declared.lines.EntryCall.TheVariants as on
 use Rattle.wasi_script.specs.declared.lines.Call.{Call}
 use Rattle.wasi_script.specs.declared.lines.Call.TheVariants as call
+use Rattle.wasi_script.specs.declared.lines.Context.{Context}
 use Rattle.wasi_script.specs.declared.lines.Line.{Line}
 use Rattle.wasi_script.specs.declared.lines.Line.TheVariants as line
 use Rattle.wasi_script.specs.Grammar.{AllStand, no_names}
@@ -27,11 +28,20 @@ use Rattle.wasi_host.specs.declared.stream.InStream.{InStream}
 use Rattle.wasi_host.specs.declared.stream.InStream.TheVariants as in_stream
 use Rattle.wasi_host.specs.declared.stream.OutStream.{OutStream}
 use Rattle.wasi_host.specs.declared.stream.OutStream.TheVariants as out_stream
+use Rattle.wasi_host.specs.Contexts.{ByContext, has_context, at_context, same_context}
 use Rattle.wasi_host.specs.OutStreams.{taken_of}
 use Rattle.wasi_host.specs.Deeds.{Own, entry_at, act, apart}
+use Rattle.wasi_clocks.specs.declared.wall_times.WallTime.{WallTime}
+use Rattle.wasi_fs.specs.Trees.{TreeState, IsOf, KeepsDescriptors}
+use Rattle.wasi_fs.specs.declared.descriptor.Descriptor.{Descriptor}
+use Rattle.wasi_fs_calls.specs.declared.call.DescriptorCall.{DescriptorCall}
+use Rattle.wasi_host.specs.declared.deed.Deed.{Deed}
+use Rattle.wasi_host.specs.declared.deed.Deed.TheVariants.{Make}
+use Rattle.wasi_host.specs.Descriptors.{filed}
+use Rattle.wasi_host.specs.Preopens.{tree_name}
 use Rattle.wasi_host.specs.Calls.{Settings, Owner, sent}
-use Rattle.wasi_host.specs.Host.{Guest, Host, CallRules, host_end, new_host, step_reply, step_host, step_told, guest_of, answer, called_in, Named, taken_out, put_back}
-use Rattle.wasi_host.specs.View.{input_names, output_names, view, IsApart, replies_seen, outputs_seen, GuestsAreAlone}
+use Rattle.wasi_host.specs.Host.{Guest, Host, CallRules, no_tree, tree_at, host_after, host_end, new_host, step_reply, step_host, step_told, guest_of, answer, called_in, Named, taken_out, put_back}
+use Rattle.wasi_host.specs.View.{input_names, output_names, tree_names, uses_input, uses_output, view, IsApart, replies_seen, outputs_seen, GuestsAreAlone}
 use Rattle.wasi_host.specs.Transcript.{ShowsRun, transcript, told_after_run, outputs_of}
 
 abbrev pub HostRuns : Type 0
@@ -48,40 +58,50 @@ TranscriptsFixRuns = (steps : List Line) (text : List ℕ) (before after before'
 abbrev pub entry_of : Call → Guest → Option Entry
 entry_of (call.On number it) guest = entry_at guest.own number
 entry_of (call.Drop number) guest = entry_at guest.own number
+entry_of (call.Descriptor number it) guest = entry_at guest.own number
+entry_of (call.Pair number to it) guest = entry_at guest.own number
 entry_of other guest = None
 
-abbrev pub is_on_input : Option Entry → Settings → List ℕ → Bool
-is_on_input (Some (entry.Stream standard.Input it)) settings name = input_names settings.input name
+-- the context that an entry was made for says which stream it is on, whichever context calls it
+abbrev pub is_on_input : Option Entry → ByContext Settings → List ℕ → Bool
+is_on_input (Some (entry.Stream context standard.Input it)) settings name = input_names (at_context context settings).input name
 is_on_input other settings name = false
 
-abbrev pub is_on_output : Option Entry → Settings → List ℕ → Bool
-is_on_output (Some (entry.Stream standard.Output it)) settings name = output_names settings.stdout name
-is_on_output (Some (entry.Stream standard.Error it)) settings name = output_names settings.stderr name
+abbrev pub is_on_output : Option Entry → ByContext Settings → List ℕ → Bool
+is_on_output (Some (entry.Stream context standard.Output it)) settings name = output_names (at_context context settings).stdout name
+is_on_output (Some (entry.Stream context standard.Error it)) settings name = output_names (at_context context settings).stderr name
 is_on_output other settings name = false
 
-abbrev pub reaches_input : Reply → Option Entry → Settings → List ℕ → Bool
-reaches_input answer on settings name = is_on_input on settings name || (ends answer && input_names settings.input name)
+abbrev pub is_on_tree : Option Entry → ByContext Settings → List ℕ → Bool
+is_on_tree (Some (entry.Descriptor context preopen it)) settings name = tree_names (tree_name preopen (at_context context settings)) name
+is_on_tree other settings name = false
 
-abbrev pub reaches_output : Reply → Option Entry → Settings → List ℕ → Bool
-reaches_output answer on settings name = is_on_output on settings name || (ends answer && (output_names settings.stdout name || output_names settings.stderr name))
+abbrev pub reaches_input : Reply → Option Entry → ByContext Settings → List ℕ → Bool
+reaches_input answer on settings name = is_on_input on settings name || (ends answer && uses_input settings name)
+
+abbrev pub reaches_output : Reply → Option Entry → ByContext Settings → List ℕ → Bool
+reaches_output answer on settings name = is_on_output on settings name || (ends answer && uses_output settings name)
 
 abbrev pub is_on_shared : Option Entry → Bool
 is_on_shared (Some (entry.Shared it)) = true
 is_on_shared other = false
 
--- What a call of a guest leaves of all else: the other guests, its own settings, each stream but those that it reaches,
--- the clocks, and the shared input, unless it is on that.
-pub record InReach (answer : Reply) (on : Option Entry) (host after : Host) (g : ℕ) (guest : Guest) : Type 0 where
-  pub others : (m : ℕ) → (m ≡ g → ⊥) → guest_of after m ≡ guest_of host m
-  pub settings : option_map (λ (guest : Guest). guest.settings) (guest_of after g) ≡ Some guest.settings
+-- What a call through a context leaves of all else: the other guests, the settings of all contexts of its own guest and
+-- the random sources of the others, each stream but those that it reaches, each tree but the one that it is on, the clocks,
+-- and the shared input, unless it is on that.
+pub record InReach (answer : Reply) (on : Option Entry) (host after : Host) (caller : Context) (guest : Guest) : Type 0 where
+  pub others : (m : ℕ) → (m ≡ caller.guest → ⊥) → guest_of after m ≡ guest_of host m
+  pub settings : option_map (λ (guest : Guest). guest.settings) (guest_of after caller.guest) ≡ Some guest.settings
+  pub sources : has_context caller.named guest.sources ≡ true → (context : Option ℕ) → has_context context guest.sources ≡ true → same_context context caller.named ≡ false → option_map (λ (guest : Guest). at_context context guest.sources) (guest_of after caller.guest) ≡ Some (at_context context guest.sources)
   pub inputs : (name : List ℕ) → reaches_input answer on guest.settings name ≡ false → lookup (bytes_eq name) after.streams.inputs ≡ lookup (bytes_eq name) host.streams.inputs
   pub outputs : (name : List ℕ) → reaches_output answer on guest.settings name ≡ false → lookup (bytes_eq name) after.streams.outputs ≡ lookup (bytes_eq name) host.streams.outputs
+  pub trees : (name : List ℕ) → is_on_tree on guest.settings name ≡ false → lookup (bytes_eq name) after.streams.trees ≡ lookup (bytes_eq name) host.streams.trees
   pub clocks : after.clocks ≡ host.clocks
   pub shared : is_on_shared on ≡ false → after.shared ≡ host.shared
 
 -- whatever the rules of calls are
 abbrev pub CallsStayInReach : Type 0
-CallsStayInReach = (rules : CallRules) (it : Call) (g : ℕ) (host : Host) (guest : Guest) → guest_of host g ≡ Some guest → InReach (answer rules it g host).reply (entry_of it guest) host (called_in rules it g host) g guest
+CallsStayInReach = (rules : CallRules) (it : Call) (caller : Context) (host : Host) (guest : Guest) → guest_of host caller.guest ≡ Some guest → InReach (answer rules it caller host).reply (entry_of it guest) host (called_in rules it caller host) caller guest
 
 -- A stream that is put back as it was taken out leaves all streams as they were, and what was put back is what is taken
 -- out next.
@@ -95,8 +115,23 @@ InputsArePutBack = (name : List ℕ) (inputs : Named InStream) → PutsBack in_s
 abbrev pub OutputsArePutBack : Type 0
 OutputsArePutBack = (name : List ℕ) (outputs : Named OutStream) → PutsBack out_stream.Closed name outputs
 
--- ---- isolation: two scripts of which a guest sees the same give it the same replies and the same bytes in its outputs,
--- whatever their shared inputs tell
+abbrev pub TreesArePutBack : Type 0
+TreesArePutBack = (name : List ℕ) (trees : Named TreeState) → PutsBack no_tree name trees
+
+-- ---- what trees come to: whatever the step, each descriptor of a tree stays one, so that its node stays what it is ..
+abbrev pub TreesKeepDescriptors : Type 0
+TreesKeepDescriptors = (step : Line) (host : Host) (given : Given) (name : Option (List ℕ)) → KeepsDescriptors (tree_at name host.streams) (tree_at name (host_after step host given).streams)
+
+-- .. and one that a call makes is of the tree that the call leaves
+abbrev pub IsMadeOf : TreeState → Deed → Type 0
+IsMadeOf tree (Make (entry.Descriptor context preopen it) parent) = IsOf tree it
+IsMadeOf tree other = Unit {0}
+
+abbrev pub DescriptorsAreMade : Type 0
+DescriptorsAreMade = (now : WallTime) (it : DescriptorCall) (blocking : Bool) (context : Option ℕ) (preopen : ℕ) (called : Descriptor) (tree : TreeState) → let done = filed now it blocking context preopen called tree in IsMadeOf done.left done.deed
+
+-- ---- isolation: two scripts of which a guest sees the same give it the same replies, but for the places of trees, and the
+-- same bytes in its outputs, whatever their shared inputs tell
 pub record SeesSame (g : ℕ) (one two : List Line) (told other : Told') : Type 0 where
   pub replies : replies_seen g one told ≡ replies_seen g two other
   pub outputs : outputs_seen g one told ≡ outputs_seen g two other
@@ -136,7 +171,7 @@ pub record Keeps (it : EntryCall) (entry : StreamEntry) (stream left : OutStream
   pub took : TookBy it entry answer (taken_of stream) (taken_of left)
 
 abbrev pub OutputsKeep : Type 0
-OutputsKeep = (it : EntryCall) (to : Standard) (owner : Owner) (entry : StreamEntry) (stream : OutStream) (own : Own) → is_direct stream ≡ true → let done = sent it to owner entry stream in Keeps it entry stream done.left (act (apart done.deed) own).reply
+OutputsKeep = (it : EntryCall) (context : Option ℕ) (to : Standard) (owner : Owner) (entry : StreamEntry) (stream : OutStream) (own : Own) → is_direct stream ≡ true → let done = sent it context to owner entry stream in Keeps it entry stream done.left (act (apart done.deed) own).reply
 
 -- ---- outputs over a whole run
 -- what such an output of a name took so far, once it is declared
@@ -147,9 +182,9 @@ abbrev pub taken_at : List ℕ → Host → Option (List ℕ)
 taken_at name host = option_and_then direct_taken (lookup (bytes_eq name) host.streams.outputs)
 
 -- the call that a step makes on the output of a name, if it makes one, and through what entry
-abbrev pub entry_call_on : List ℕ → EntryCall → Option Entry → Settings → Option (EntryCall × StreamEntry)
-entry_call_on name it (Some (entry.Stream standard.Output e)) settings = cond (output_names settings.stdout name) (Some (it, e)) None
-entry_call_on name it (Some (entry.Stream standard.Error e)) settings = cond (output_names settings.stderr name) (Some (it, e)) None
+abbrev pub entry_call_on : List ℕ → EntryCall → Option Entry → ByContext Settings → Option (EntryCall × StreamEntry)
+entry_call_on name it (Some (entry.Stream context standard.Output e)) settings = cond (output_names (at_context context settings).stdout name) (Some (it, e)) None
+entry_call_on name it (Some (entry.Stream context standard.Error e)) settings = cond (output_names (at_context context settings).stderr name) (Some (it, e)) None
 entry_call_on name it other settings = None
 
 abbrev pub guest_call_on : List ℕ → Call → Guest → Option (EntryCall × StreamEntry)
@@ -157,7 +192,7 @@ guest_call_on name (call.On number it) guest = cond guest.ended None (entry_call
 guest_call_on name other guest = None
 
 abbrev pub step_call_on : List ℕ → Line → Host → Option (EntryCall × StreamEntry)
-step_call_on name (line.Call g it) host = option_and_then (guest_call_on name it) (guest_of host g)
+step_call_on name (line.Call caller it) host = option_and_then (guest_call_on name it) (guest_of host caller.guest)
 step_call_on name other host = None
 
 -- what its reply says that it took then; of any other step it takes nothing

@@ -1,4 +1,4 @@
--- The random sources of a guest, and what it is told of them.
+-- The random sources of a context, and what its guest is told of them.
 use Rattle.std.specs.Prelude.{◌/◌, ◌%◌, ◌^◌, cond, nat_lt, min}
 use Rattle.wasi_base.specs.declared.trap_text.TrapText.TheVariants.{RequestedLength}
 use Rattle.wasi_random.specs.declared.known.KnownGenerator.{KnownGenerator}
@@ -24,7 +24,7 @@ abbrev pub with_source : RandomSource → KnownGenerator → Sources → Sources
 with_source source.Secure it sources = record sources { secure = it }
 with_source source.Insecure it sources = record sources { insecure = it }
 
--- what a call is told, and what it leaves of its guest's sources
+-- what a call is told, and what it leaves of its context's sources
 pub record Drawn : Type 0 where
   pub told : Told
   pub left : Sources

@@ -14,8 +14,6 @@ use Rattle.wasi_script.specs.declared.lines.Input.TheVariants as from
 use Rattle.wasi_script.specs.declared.lines.Standard.TheVariants as standard
 use Rattle.wasi_script.specs.declared.lines.Access.{Access}
 use Rattle.wasi_script.specs.declared.lines.Access.TheVariants as access
-use Rattle.wasi_script.specs.declared.lines.Setting.{Setting}
-use Rattle.wasi_script.specs.declared.lines.Setting.TheVariants as setting
 use Rattle.wasi_script.specs.declared.lines.EntryCall.{EntryCall}
 use Rattle.wasi_script.specs.declared.lines.EntryCall.TheVariants as on
 use Rattle.wasi_script.specs.declared.lines.Call.{Call}
@@ -31,6 +29,7 @@ use Rattle.wasi_reply.specs.declared.reply.Worked.TheVariants as worked
 use Rattle.wasi_reply.specs.declared.reply.Reply.{Reply}
 use Rattle.wasi_reply.specs.declared.reply.Reply.TheVariants as reply
 use Rattle.wasi_reply.specs.Reply.{ends}
+use Rattle.wasi_host.specs.Contexts.{same_context}
 
 -- what stands at a number, of the shared input: a reader, a polled one with its wait, or a pollable with its reader's
 -- number and its wait
@@ -49,7 +48,7 @@ pub record Sharing : Type 0 where
   pub deliveries : ℕ
   pub standing : ℕ → ℕ → Option Standing
   pub live : ℕ → FinSet nat_cmp
-  pub shares : ℕ → Bool
+  pub shares : ℕ → Option ℕ → Bool
   pub capacity : ℕ → ℕ
   pub ended : ℕ → Bool
 
@@ -66,7 +65,7 @@ at_start told = record {
   deliveries = 0;
   standing = λ guest number. None;
   live = λ guest. empty;
-  shares = λ guest. false;
+  shares = λ guest context. false;
   capacity = λ guest. 1024;
   ended = λ guest. false;
 }
@@ -224,24 +223,30 @@ abbrev pub opened_standing : Access → Standing
 opened_standing access.Plain = Reader
 opened_standing access.Polled = Polled None
 
--- a guest opens its standard input, which may be the shared one
+-- a guest opens the standard input of a context, which may be the shared one
 abbrev pub OpenRule : Bool → Access → Sharing → ℕ → Reply → Sharing → Type 0
 OpenRule true how s g answer s' = MakeRule (is_full s g) (opened_standing how) s g answer s'
 OpenRule false how s g answer s' = OtherRule s s'
 
-abbrev pub CallRule : Call → List ℕ → Sharing → ℕ → Reply → Sharing → Type 0
-CallRule (call.Open standard.Input how) input s g answer s' = OpenRule (s.shares g) how s g answer s'
-CallRule (call.On n it) input s g answer s' = EntryRule (s.standing g n) it input s g n answer s'
-CallRule (call.Drop n) input s g answer s' = DropRule (s.standing g n) s g n answer s'
-CallRule other input s g answer s' = OtherRule s s'
+abbrev pub CallRule : Call → List ℕ → Sharing → ℕ → Option ℕ → Reply → Sharing → Type 0
+CallRule (call.Open standard.Input how) input s g context answer s' = OpenRule (s.shares g context) how s g answer s'
+CallRule (call.On n it) input s g context answer s' = EntryRule (s.standing g n) it input s g n answer s'
+CallRule (call.Drop n) input s g context answer s' = DropRule (s.standing g n) s g n answer s'
+CallRule other input s g context answer s' = OtherRule s s'
 
--- the live numbers are read off the replies: a handle adds its number, and a drop that is done takes its away
+-- the live numbers are read off the replies: a handle adds its number, directories add theirs, and a drop that is done
+-- takes its away
 abbrev pub dropped_by : Call → FinSet nat_cmp → FinSet nat_cmp
 dropped_by (call.Drop n) live = remove live n
 dropped_by other live = live
 
+abbrev pub also_live : List (ℕ × List ℕ) → FinSet nat_cmp → FinSet nat_cmp
+also_live [] live = live
+also_live (row ∷ rows) live = also_live rows (insert live row.0)
+
 abbrev pub live_after : Call → Reply → FinSet nat_cmp → FinSet nat_cmp
 live_after c (reply.Handle n) live = insert live n
+live_after c (reply.Directories rows) live = also_live rows live
 live_after c (reply.Told told.Ok) live = dropped_by c live
 live_after c other live = live
 
@@ -250,9 +255,9 @@ abbrev pub left_by : Call → ℕ → Reply → Sharing → Sharing
 left_by c g answer s = cond (ends answer) (without_guest s g) (record s { live = at_number s.live g (live_after c answer (s.live g)) })
 
 -- a guest that ended is told so, and nobody else is
-abbrev pub EndedRule : Bool → Call → List ℕ → Sharing → ℕ → Reply → Sharing → Type 0
-EndedRule true c input s g answer s' = (answer ≡ reply.Ended) × (s' ≡ s)
-EndedRule false c input s g answer s' = (answer ≡ reply.Ended → ⊥) × (mid : Sharing) × CallRule c input s g answer mid × (s' ≡ left_by c g answer mid)
+abbrev pub EndedRule : Bool → Call → List ℕ → Sharing → ℕ → Option ℕ → Reply → Sharing → Type 0
+EndedRule true c input s g context answer s' = (answer ≡ reply.Ended) × (s' ≡ s)
+EndedRule false c input s g context answer s' = (answer ≡ reply.Ended → ⊥) × (mid : Sharing) × CallRule c input s g context answer mid × (s' ≡ left_by c g answer mid)
 
 -- ---- the worker
 -- a capture takes what is asked for, one byte at least and 65536 at most, where nothing is captured
@@ -287,21 +292,21 @@ WorkerRule turn.Capture s answer s' = CaptureRule (size_captured s.mode s.captur
 WorkerRule turn.Deliver s answer s' = DeliverRule s.captured s answer s'
 
 -- ---- a step
--- which guests read the shared input
+-- which contexts read the shared input; one that no line declared is one more of its guest's main context
 abbrev pub is_shared : Input → Bool
 is_shared from.Shared = true
 is_shared from.Terminal = true
 is_shared other = false
 
-abbrev pub setting_row : Setting → ℕ → Sharing → Sharing
-setting_row (setting.Capacity capacity) g s = record s { capacity = at_number s.capacity g capacity }
-setting_row other g s = s
+abbrev pub with_share : Sharing → ℕ → ℕ → Bool → Sharing
+with_share s g id shares = record s { shares = at_number s.shares g (λ context. cond (same_context context (Some id)) shares (s.shares g context)) }
 
 -- one step of a run, on the input
 abbrev pub Rule : List ℕ → Sharing → Line → Reply → Sharing → Type 0
-Rule input s (line.Guest g it) answer s' = (answer ≡ reply.Told told.Ok) × (s' ≡ record s { shares = at_number s.shares g (is_shared it) })
-Rule input s (line.Configure g it) answer s' = (answer ≡ reply.Told told.Ok) × (s' ≡ setting_row it g s)
-Rule input s (line.Call g c) answer s' = EndedRule (s.ended g) c input s g answer s'
+Rule input s (line.Guest g it) answer s' = (answer ≡ reply.Told told.Ok) × (s' ≡ record s { shares = at_number s.shares g (λ context. is_shared it) })
+Rule input s (line.Context g id it) answer s' = (answer ≡ reply.Told told.Ok) × (s' ≡ with_share s g id (is_shared it))
+Rule input s (line.Capacity g capacity) answer s' = (answer ≡ reply.Told told.Ok) × (s' ≡ record s { capacity = at_number s.capacity g capacity })
+Rule input s (line.Call caller c) answer s' = EndedRule (s.ended caller.guest) c input s caller.guest caller.named answer s'
 Rule input s (line.Worker it) answer s' = (worked : Worked) × (answer ≡ reply.Worked worked) × WorkerRule it s worked s'
 Rule input s (line.Turn it) answer s' = OtherRule s s'
 Rule input s other answer s' = (answer ≡ reply.Told told.Ok) × (s' ≡ s)
@@ -312,7 +317,7 @@ call_bytes false (call.On n it) input s g answer = entry_bytes (s.standing g n) 
 call_bytes ended other input s g answer = []
 
 abbrev pub step_bytes : List ℕ → Sharing → Line → Reply → List ℕ
-step_bytes input s (line.Call g c) answer = call_bytes (s.ended g) c input s g answer
+step_bytes input s (line.Call caller c) answer = call_bytes (s.ended caller.guest) c input s caller.guest answer
 step_bytes input s other answer = []
 
 -- a run: a reply for each step; and all bytes that it hands out or skips, in the order of the steps

@@ -83,7 +83,7 @@ call_faults false (call.On n it) s g answer = entry_faults (s.standing g n) it a
 call_faults ended other s g answer = 0
 
 abbrev pub step_faults : Sharing → Line → Reply → ℕ
-step_faults s (line.Call g c) answer = call_faults (s.ended g) c s g answer
+step_faults s (line.Call caller c) answer = call_faults (s.ended caller.guest) c s caller.guest answer
 step_faults s other answer = 0
 
 abbrev pub faults_told : (input : List ℕ) (s : Sharing) (steps : List Line) (answers : List Reply) (bytes : List ℕ) (after : Sharing) → IsRun input s steps answers bytes after → ℕ

@@ -2,7 +2,7 @@
 use Rattle.std.specs.Prelude.{ℕ, Bool, ◌&&◌, not, is_some, if◌then◌else◌, List, [], Option, None, Result}
 use Rattle.wasi_base.specs.declared.stream_error.StreamError.{StreamError}
 use Rattle.wasi_base.specs.declared.trap_text.TrapText.TheVariants.{ConcurrentReads, ConcurrentSkips, ConcurrentCheckWrites, ConcurrentWrites, ConcurrentFlushes}
-use Rattle.wasi_streams.specs.Reader.{Reader, reader_read, reader_skip, reader_is_ready}
+use Rattle.wasi_streams.specs.Reader.{Reader, reader_read, reader_skip}
 use Rattle.wasi_streams.specs.Writer.{Writer, writer_check_write, writer_write, writer_flush}
 use Rattle.wasi_cli.specs.declared.owner.Owner.{Owner}
 use Rattle.wasi_cli.specs.declared.handle.StdioHandle.{StdioHandle}

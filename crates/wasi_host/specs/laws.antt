@@ -1,4 +1,6 @@
+pub mod Contexts
 pub mod Entries
+pub mod OnTrees
 pub mod Shown
 pub mod SharedCalls
 pub mod GuestCalls
@@ -13,4 +15,6 @@ pub mod Walk
 pub mod Filled
 pub mod Buffered
 pub mod TurnEnds
+pub mod TreeTraps
 pub mod Traps
+pub mod TreesKept

@@ -1,9 +1,11 @@
 ghost use Rattle.std.specs.Prelude.{◌≡◌, Some};
 ghost use Rattle.wasi_host.specs.Entry.{stream_kind};
+ghost use Rattle.wasi_host.specs.Contexts.{same_context};
 ghost use Rattle.wasi_host.specs.Deeds.{stands_alone, goes_under, may_change, same_standard, is_shared};
 
 use wasi_cli::{StdoutHandle, TerminalInput, TerminalOutput};
 use wasi_clocks::{Deadline, Wait3};
+use wasi_fs::Descriptor;
 use wasi_script::Standard;
 use wasi_stdin::Wait;
 use wasi_table::Kinded;
@@ -49,13 +51,22 @@ pub enum OwnEntry {
 pub enum Entry {
     /// On the shared input.
     Shared(SharedEntry),
-    /// On the stream that this standard stream of the guest is.
+    /// On the stream that this standard stream of a context is. It stays on that, whichever context
+    /// calls it.
     Stream {
+        context: Option<u32>,
         stream: Standard,
         entry: StreamEntry,
     },
     /// On no stream.
     Own(OwnEntry),
+    /// A descriptor. It is of the tree that this `preopen` line of a context gave, counted from 0
+    /// among those of the context.
+    Descriptor {
+        context: Option<u32>,
+        preopen: usize,
+        descriptor: Descriptor,
+    },
 }
 
 impl Entry {
@@ -86,14 +97,17 @@ impl Entry {
     /// The kind of a terminal as an output.
     pub const TERMINAL_OUTPUT: u32 = 8;
 
+    /// The kind of a descriptor.
+    pub const DESCRIPTOR: u32 = 9;
+
     /// Whether an entry has no parent.
     pub fn stands_alone(&self) -> bool
         ensures { result ≡ stands_alone self.now }
     {
         match self {
             Entry::Shared(SharedEntry::Pollable(_)) => false,
-            Entry::Stream { stream: _, entry } => !matches!(entry, StreamEntry::Pollable),
-            Entry::Shared(_) | Entry::Own(_) => true,
+            Entry::Stream { entry, .. } => !matches!(entry, StreamEntry::Pollable),
+            Entry::Shared(_) | Entry::Own(_) | Entry::Descriptor { .. } => true,
         }
     }
 
@@ -106,16 +120,17 @@ impl Entry {
                 matches!(parent, Entry::Shared(SharedEntry::Reader))
             }
             Entry::Stream {
-                stream: _,
                 entry: StreamEntry::Pollable,
+                ..
             } => matches!(
                 parent,
                 Entry::Stream {
-                    stream: _,
-                    entry: StreamEntry::Plain
+                    entry: StreamEntry::Plain,
+                    ..
                 }
             ),
-            Entry::Shared(_) | Entry::Stream { .. } | Entry::Own(_) => false,
+            Entry::Shared(_) | Entry::Stream { .. } | Entry::Own(_) | Entry::Descriptor { .. } =>
+                false,
         }
     }
 
@@ -130,14 +145,16 @@ impl Entry {
             }
             (
                 Entry::Stream {
+                    context,
                     stream: to,
                     entry: StreamEntry::Polled(_),
                 },
                 Entry::Stream {
+                    context: other,
                     stream: on,
                     entry: StreamEntry::Polled(_),
                 },
-            ) => same_standard(*to, *on),
+            ) => same_context(*context, *other) && same_standard(*to, *on),
             (Entry::Own(OwnEntry::Deadline(_)), Entry::Own(OwnEntry::Deadline(_))) => true,
             _ => false,
         }
@@ -161,12 +178,27 @@ impl Kinded for Entry {
             Entry::Shared(SharedEntry::Reader) => Entry::READER,
             Entry::Shared(SharedEntry::Polled(_)) => Entry::POLLED,
             Entry::Shared(SharedEntry::Pollable(_)) => Entry::POLLABLE,
-            Entry::Stream { stream, entry } => stream_kind(*stream, *entry),
+            Entry::Stream {
+                context: _,
+                stream,
+                entry,
+            } => stream_kind(*stream, *entry),
             Entry::Own(OwnEntry::Deadline(_)) => Entry::DEADLINE,
             Entry::Own(OwnEntry::Wait(_)) => Entry::WAIT,
             Entry::Own(OwnEntry::TerminalInput(_)) => Entry::TERMINAL_INPUT,
             Entry::Own(OwnEntry::TerminalOutput(_)) => Entry::TERMINAL_OUTPUT,
+            Entry::Descriptor { .. } => Entry::DESCRIPTOR,
         }
+    }
+}
+
+fn same_context(one: Option<u32>, other: Option<u32>) -> bool
+    ensures { result ≡ same_context one other }
+{
+    match (one, other) {
+        (None, None) => true,
+        (Some(id), Some(other)) => id == other,
+        _ => false,
     }
 }
 

@@ -1,8 +1,10 @@
-ghost use Rattle.wasi_host.specs.Promises.{HostRuns, CallsStayInReach, InputsArePutBack, OutputsArePutBack, GuestsAreIsolated, EachIsAlone, OutputsKeep, OutputsFill, TranscriptsFixRuns};
+ghost use Rattle.wasi_host.specs.Promises.{HostRuns, CallsStayInReach, InputsArePutBack, OutputsArePutBack, TreesArePutBack, GuestsAreIsolated, EachIsAlone, OutputsKeep, OutputsFill, TranscriptsFixRuns, TreesKeepDescriptors, DescriptorsAreMade};
 ghost use Rattle.wasi_host.specs.Buffers.{BuffersKeep};
-ghost use Rattle.wasi_host.specs.Traps.{TrapsStay, DeadNumbersAreRefused, EndsFreeEach};
+ghost use Rattle.wasi_host.specs.Traps.{TrapsStay, DeadNumbersAreRefused, DeadSecondsAreRefused, EndsFreeEach};
 ghost use Rattle.wasi_host.specs.Sound.{RunsAreSound, RunsKeepRequests, RunsTellOnce};
 
+use wasi_fs_calls::calls_keep_descriptors;
+use wasi_fs_nodes::kinds_stay;
 use wasi_reply::lines_fix_replies;
 
 /// A law: over a source that tells, what the host replies to the steps of a valid script is a run
@@ -18,9 +20,11 @@ pub fn transcripts_fix_runs()
     lines_fix_replies();
 }
 
-/// A law, for every call and whatever the rules of calls are: a call leaves the other guests, its
-/// own guest's settings, each stream but the one that it is on, and the shared input unless it is
-/// on that, as they were. What it is on the entry at its number says.
+/// A law, for every call and whatever the rules of calls are: a call leaves the other guests, the
+/// settings of all contexts of its own guest and the random sources of those that it does not go
+/// through, each stream and each tree but the one that it is on, and the shared input unless it is
+/// on that, as they were. What it is on the entry at its number says; a call on two descriptors is
+/// on the tree of the first.
 pub fn calls_stay_in_reach()
     ensures { CallsStayInReach }
 {}
@@ -29,24 +33,40 @@ pub fn calls_stay_in_reach()
 /// has left nor what an output took or has buffered; a turn that the guest had passes to the first of
 /// the others that wait for it, and no other turn passes. The other guests, the shared input and the
 /// clocks are as they were, and the guest owns nothing any more. A number that is not live in its
-/// caller's table is refused, which is such a trap. The turns pass as if the guest's entries were
-/// freed one by one, in any order.
+/// caller's table is refused, which is such a trap; of a call on two descriptors the second number is,
+/// too, once the first is that of a descriptor. The trees are as they were, but where an opened
+/// descriptor found no room in the guest's table. The turns pass as if the guest's entries were freed
+/// one by one, in any order.
 pub fn traps_stay_with_their_guest()
     ensures stays { TrapsStay }
     ensures refused { DeadNumbersAreRefused }
+    ensures second { DeadSecondsAreRefused }
     ensures turns { EndsFreeEach }
 {}
 
-/// A law: a stream that is put back as it was taken out leaves all streams as they were, and what
+/// A law: a stream or a tree that is put back as it was taken out leaves all as they were, and what
 /// was put back is what is taken out next.
 pub fn what_is_put_back()
     ensures inputs { InputsArePutBack }
     ensures outputs { OutputsArePutBack }
+    ensures trees { TreesArePutBack }
 {}
+
+/// A law, for every step: a descriptor that is of a tree stays one, so that its node stays the file or
+/// the directory that it was, also where no entry names it any more. One that a call makes is of the
+/// tree that the call leaves.
+pub fn trees_keep_descriptors()
+    ensures kept { TreesKeepDescriptors }
+    ensures made { DescriptorsAreMade }
+{
+    calls_keep_descriptors();
+    kinds_stay();
+}
 
 /// A law: of two lists of steps let a guest read the shared input in neither, let no other guest's
 /// lines name what its own name, and let it see the same of both. Then its replies are the same,
-/// numbers of entries included, and so is what its outputs took.
+/// numbers of entries included, but for the place of a tree that a hash is told with, and so is what
+/// its outputs took.
 pub fn guests_are_isolated()
     ensures { GuestsAreIsolated }
 {}

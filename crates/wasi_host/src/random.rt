@@ -5,7 +5,7 @@ ghost use Rattle.wasi_random.specs.Known.{of_bytes, of_number};
 use wasi_random::{Deterministic, KnownGenerator, seeded_rng};
 use wasi_script::RandomSource;
 
-/// The random sources of a guest.
+/// The random sources of a context.
 #[derive(Drop)]
 pub struct Sources {
     pub secure: KnownGenerator,

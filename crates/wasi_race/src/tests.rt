@@ -486,7 +486,7 @@ fn collect_jobs<S: Source + Drop, L: Ledger>(
         }
     }
     match shared.collect(passes, found?) {
-        Ok(collected) => Some(collected.pieces.into_vec()),
+        Ok(collected) => collected.pieces.into_vec(alloc).ok(),
         Err(_) => None,
     }
 }

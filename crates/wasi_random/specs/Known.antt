@@ -2,7 +2,7 @@
 use Rattle.std.specs.Prelude.{◌≡◌, ℕ, zero, suc, ◌%◌, ◌^◌, List, [], ◌∷◌, ◌++◌}
 use Rattle.rand_core.specs.Stream.{Stream, next_u64}
 use Rattle.rand_core.specs.Steps.{stream_of, steps_u32, u64_via_u32}
-use Rattle.rand_chacha.specs.ChaCha.{next_word, of_seed}
+use Rattle.rand_chacha.specs.ChaCha.{ChaCha, next_word, of_seed}
 use Rattle.wasi_random.specs.Cycle.{cycle_steps, next_double}
 use Rattle.wasi_random.specs.Cycle as cycles
 use Rattle.wasi_random.specs.Draws.{draws}
@@ -37,6 +37,14 @@ known_bytes zero it = ([], it)
 known_bytes (suc n) it =
     let before = known_bytes n it in
     let last = known_byte before.1 in
+    (before.0 ++ last.0 ∷ [], last.1)
+
+-- n words of ChaCha, and the generator after them
+abbrev pub next_words : ℕ → ChaCha → List ℕ × ChaCha
+next_words zero chacha = ([], chacha)
+next_words (suc n) chacha =
+    let before = next_words n chacha in
+    let last = next_word 10 before.1 in
     (before.0 ++ last.0 ∷ [], last.1)
 
 -- all that it will answer from now on, as `rand_core` says it

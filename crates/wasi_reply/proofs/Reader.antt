@@ -1,10 +1,13 @@
 -- A reply is read back from its word and its fields.
-use Rattle.std.proofs.Common.{◌≡◌, ℕ, true, false, List, [], ◌∷◌, Option, Some, None, refl}
+use Rattle.std.proofs.Common.{◌≡◌, ℕ, Bool, true, false, List, [], ◌∷◌, Option, Some, None, refl}
 use Rattle.std.specs.Prelude.{cond, codes, map}
 use Rattle.std.specs.Option.{option_map, option_and_then}
 use Rattle.std.specs.Str.{bytes_eq}
 use Rattle.wasi_base.specs.declared.io_kind.IoKind.{IoKind}
 use Rattle.wasi_base.specs.declared.trap_text.TrapText.{TrapText}
+use Rattle.wasi_fs_types.specs.declared.descriptor.DescriptorStat.{DescriptorStat}
+use Rattle.wasi_fs_types.specs.declared.descriptor.DescriptorType.{DescriptorType}
+use Rattle.wasi_fs_types.specs.declared.error_code.ErrorCode.{ErrorCode}
 use Rattle.wasi_reply.specs.declared.reply.Told.{Told}
 use Rattle.wasi_reply.specs.declared.reply.Told.TheVariants as told
 use Rattle.wasi_reply.specs.declared.reply.Worked.{Worked}
@@ -41,6 +44,29 @@ abbrev of_kind : (IoKind → Reply) → List Field → Option Reply
 of_kind make (Field.Kind kind ∷ []) = Some (make kind)
 of_kind make _ = None
 
+abbrev of_code : (ErrorCode → Reply) → List Field → Option Reply
+of_code make (Field.Code code ∷ []) = Some (make code)
+of_code make _ = None
+
+abbrev of_type : (DescriptorType → Reply) → List Field → Option Reply
+of_type make (Field.NodeType type_ ∷ []) = Some (make type_)
+of_type make _ = None
+
+abbrev of_flags : (Bool → Bool → Bool → Reply) → List Field → Option Reply
+of_flags make (Field.Flags read write mutate ∷ []) = Some (make read write mutate)
+of_flags make _ = None
+
+abbrev of_stat : (DescriptorStat → Reply) → List Field → Option Reply
+of_stat make (Field.NodeType type_ ∷ Field.Number links ∷ Field.Number size ∷ Field.Time access ∷ Field.Time modification ∷ Field.Time change ∷ []) = Some (make (record {
+  type_ = type_;
+  link_count = links;
+  size = size;
+  data_access_timestamp = access;
+  data_modification_timestamp = modification;
+  status_change_timestamp = change;
+}))
+of_stat make _ = None
+
 abbrev of_trap : (TrapText → Reply) → List Field → Option Reply
 of_trap make (Field.Trap trap ∷ []) = Some (make trap)
 of_trap make _ = None
@@ -52,6 +78,10 @@ of_texts make _ = None
 abbrev of_pairs : (List (List ℕ × List ℕ) → Reply) → List Field → Option Reply
 of_pairs make (Field.Pairs pairs ∷ []) = Some (make pairs)
 of_pairs make _ = None
+
+abbrev of_directories : (List (ℕ × List ℕ) → Reply) → List Field → Option Reply
+of_directories make (Field.Directories directories ∷ []) = Some (make directories)
+of_directories make _ = None
 
 abbrev alone : List ℕ → Reply → Row
 alone word it = record { word = word; forms = []; make = of_none it }
@@ -68,6 +98,18 @@ hex word make = record { word = word; forms = Form.AsHex ∷ []; make = of_hex m
 abbrev kind : List ℕ → (IoKind → Reply) → Row
 kind word make = record { word = word; forms = Form.AsKind ∷ []; make = of_kind make }
 
+abbrev code : List ℕ → (ErrorCode → Reply) → Row
+code word make = record { word = word; forms = Form.AsCode ∷ []; make = of_code make }
+
+abbrev node : List ℕ → (DescriptorType → Reply) → Row
+node word make = record { word = word; forms = Form.AsType ∷ []; make = of_type make }
+
+abbrev flags : List ℕ → (Bool → Bool → Bool → Reply) → Row
+flags word make = record { word = word; forms = Form.AsFlags ∷ []; make = of_flags make }
+
+abbrev stat : List ℕ → (DescriptorStat → Reply) → Row
+stat word make = record { word = word; forms = Form.AsType ∷ Form.AsNumber ∷ Form.AsNumber ∷ Form.AsTime ∷ Form.AsTime ∷ Form.AsTime ∷ []; make = of_stat make }
+
 abbrev trap : List ℕ → (TrapText → Reply) → Row
 trap word make = record { word = word; forms = Form.AsTrap ∷ []; make = of_trap make }
 
@@ -77,10 +119,14 @@ texts word make = record { word = word; forms = Form.AsTexts ∷ []; make = of_t
 abbrev pairs : List ℕ → (List (List ℕ × List ℕ) → Reply) → Row
 pairs word make = record { word = word; forms = Form.AsPairs ∷ []; make = of_pairs make }
 
+abbrev directories : List ℕ → (List (ℕ × List ℕ) → Reply) → Row
+directories word make = record { word = word; forms = Form.AsDirectories ∷ []; make = of_directories make }
+
 -- one row for each reply
 abbrev rows : List Row
 rows =
     number (codes "handle") reply.Handle
+    ∷ directories (codes "dirs") reply.Directories
     ∷ alone (codes "ok") (reply.Told told.Ok)
     ∷ hex (codes "bytes") (λ bytes. reply.Told (told.Bytes bytes))
     ∷ number (codes "count") (λ count. reply.Told (told.Count count))
@@ -91,6 +137,12 @@ rows =
     ∷ pairs (codes "env") (λ variables. reply.Told (told.Environment variables))
     ∷ texts (codes "args") (λ arguments. reply.Told (told.Arguments arguments))
     ∷ hex (codes "cwd") (λ cwd. reply.Told (told.Cwd cwd))
+    ∷ flags (codes "flags") (λ read write mutate. reply.Told (told.Flags read write mutate))
+    ∷ node (codes "type") (λ type_. reply.Told (told.Type type_))
+    ∷ stat (codes "stat") (λ stat. reply.Told (told.Stat stat))
+    ∷ hex (codes "text") (λ text. reply.Told (told.Text text))
+    ∷ numbers (codes "hash") (λ node tree. reply.Told (told.Hash node tree))
+    ∷ code (codes "err") (λ code. reply.Told (told.Err code))
     ∷ alone (codes "none") (reply.Told told.Absent)
     ∷ alone (codes "pending") (reply.Told told.Pending)
     ∷ alone (codes "closed") (reply.Told told.Closed)

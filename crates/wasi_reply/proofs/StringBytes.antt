@@ -44,10 +44,11 @@ small-encodes (c ∷ cs) e =
     let both = and_parts (scalar c) (scalars cs) e in
     small-append (encode c) (encodes cs) (small-encode c both.0) (small-encodes cs both.1)
 
+pub utf8_is_bytes : (text : List ℕ) → IsUtf8 text → IsBytes text
+utf8_is_bytes text is = are_bytes text (subst Small is.1.1 (small-encodes is.0 is.1.0))
+
 pub string_is_bytes : (string : String Global) → IsBytes (string_bytes string)
-string_is_bytes string =
-    let text : IsUtf8 (string_bytes string) = IsUtf8-string_bytes string in
-    are_bytes (string_bytes string) (subst Small text.1.1 (small-encodes text.0 text.1.0))
+string_is_bytes string = utf8_is_bytes (string_bytes string) (IsUtf8-string_bytes string)
 
 pub texts_are_bytes : (strings : List (String Global)) → AllByRecursion IsBytes (texts strings)
 texts_are_bytes [] = tt

@@ -1,6 +1,7 @@
 -- What a step replies, and the text of it.
 use Rattle.std.specs.Prelude.{ℕ, Bool, true, false, List, [], ◌∷◌, ◌++◌, codes}
 use Rattle.std.specs.List.{AllByRecursion, flat_map}
+use Rattle.wasi_fs_types.specs.declared.descriptor.DescriptorStat.{DescriptorStat}
 use Rattle.wasi_reply.specs.declared.reply.Told.{Told}
 use Rattle.wasi_reply.specs.declared.reply.Told.TheVariants as told
 use Rattle.wasi_reply.specs.declared.reply.Worked.{Worked}
@@ -9,6 +10,14 @@ use Rattle.wasi_reply.specs.declared.reply.Reply.{Reply}
 use Rattle.wasi_reply.specs.declared.reply.Reply.TheVariants as reply
 use Rattle.wasi_reply.specs.Field.{Field, IsField, worded}
 pub use Rattle.wasi_reply.specs.Field.{hex_of}
+
+-- of its access, and of its changes of data and of status
+abbrev pub times_of : DescriptorStat → List Field
+times_of stat = Field.Time stat.data_access_timestamp ∷ Field.Time stat.data_modification_timestamp ∷ Field.Time stat.status_change_timestamp ∷ []
+
+-- what a node is, how many entries name it, its size, and its times
+abbrev pub stat_fields : DescriptorStat → List Field
+stat_fields stat = Field.NodeType stat.type_ ∷ Field.Number stat.link_count ∷ Field.Number stat.size ∷ times_of stat
 
 -- a reply's word, and its fields
 abbrev pub told_fields : Told → List ℕ × List Field
@@ -22,6 +31,12 @@ told_fields (told.Seed low high) = (codes "seed", Field.Number low ∷ Field.Num
 told_fields (told.Environment variables) = (codes "env", Field.Pairs variables ∷ [])
 told_fields (told.Arguments arguments) = (codes "args", Field.Texts arguments ∷ [])
 told_fields (told.Cwd cwd) = (codes "cwd", Field.Hex cwd ∷ [])
+told_fields (told.Flags read write mutate) = (codes "flags", Field.Flags read write mutate ∷ [])
+told_fields (told.Type type_) = (codes "type", Field.NodeType type_ ∷ [])
+told_fields (told.Stat stat) = (codes "stat", stat_fields stat)
+told_fields (told.Text text) = (codes "text", Field.Hex text ∷ [])
+told_fields (told.Hash node tree) = (codes "hash", Field.Number node ∷ Field.Number tree ∷ [])
+told_fields (told.Err code) = (codes "err", Field.Code code ∷ [])
 told_fields told.Absent = (codes "none", [])
 told_fields told.Pending = (codes "pending", [])
 told_fields told.Closed = (codes "closed", [])
@@ -40,6 +55,7 @@ worked_fields (worked.Fault kind) = (codes "fault", Field.Kind kind ∷ [])
 
 abbrev pub fields_of : Reply → List ℕ × List Field
 fields_of (reply.Handle number) = (codes "handle", Field.Number number ∷ [])
+fields_of (reply.Directories directories) = (codes "dirs", Field.Directories directories ∷ [])
 fields_of (reply.Told it) = told_fields it
 fields_of reply.Ended = (codes "ended", [])
 fields_of (reply.Worked it) = worked_fields it

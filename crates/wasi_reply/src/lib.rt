@@ -16,4 +16,4 @@ pub use laws::{
 pub use piece::Piece;
 pub use reply::{Reply, Told, Worked};
 pub use text::{push_line, push_output};
-pub use texts::{Text, TextPairs, Texts};
+pub use texts::{Directories, TextPairs, Texts};

@@ -1,8 +1,9 @@
 ghost use Rattle.std.specs.Prelude.{◌≡◌};
 ghost use Rattle.wasi_reply.specs.Reply.{told_ends, ends};
 
-use crate::{Piece, Text, TextPairs, Texts};
-use wasi_base::{IoKind, TrapText};
+use crate::{Directories, Piece, TextPairs, Texts};
+use wasi_base::{IoKind, Text, TrapText};
+use wasi_fs_types::{DescriptorStat, DescriptorType, ErrorCode};
 
 /// What a call tells its guest where it makes no entry, and a line of a script that is done.
 #[derive(Drop)]
@@ -15,15 +16,40 @@ pub enum Told {
     /// Whether a pollable, a deadline or a wait is ready.
     Truth(bool),
     /// What a wall clock reads, or its resolution: whole seconds, and nanoseconds on top of them.
-    Time { seconds: u64, nanoseconds: u32 },
+    Time {
+        seconds: u64,
+        nanoseconds: u32,
+    },
     /// The seed for a guest's insecure uses: its low 64 bits, and its high ones.
-    Seed { low: u64, high: u64 },
+    Seed {
+        low: u64,
+        high: u64,
+    },
     /// The variables of a guest's environment.
     Environment(TextPairs),
     /// A guest's arguments.
     Arguments(Texts),
     /// The directory in which a guest begins.
     Cwd(Text),
+    /// What an open file or directory is open for.
+    Flags {
+        read: bool,
+        write: bool,
+        mutate_directory: bool,
+    },
+    /// What an open file or directory is.
+    Type(DescriptorType),
+    /// What is known of a node of a tree.
+    Stat(DescriptorStat),
+    /// The text of a link.
+    Text(Text),
+    /// A node's number in its tree, and the tree's place among the declared ones, from 0.
+    Hash {
+        node: u64,
+        tree: u64,
+    },
+    /// A call on a descriptor is refused.
+    Err(ErrorCode),
     /// There is none: the stream is no terminal, or the guest begins in no directory.
     Absent,
     /// Not before the next delivery.
@@ -62,6 +88,8 @@ pub enum Worked {
 pub enum Reply {
     /// The number of a new entry.
     Handle(u32),
+    /// The numbers of new entries, one for each directory that the guest was given.
+    Directories(Directories),
     Told(Told),
     /// The guest ended before.
     Ended,
@@ -84,7 +112,7 @@ impl Reply {
     {
         match self {
             Reply::Told(told) => told.ends(),
-            Reply::Handle(_) | Reply::Ended | Reply::Worked(_) => false,
+            Reply::Handle(_) | Reply::Directories(_) | Reply::Ended | Reply::Worked(_) => false,
         }
     }
 }

@@ -1,8 +1,10 @@
-use crate::{Piece, Reply, Text, TextPairs, Texts, Told, Worked, push_line, push_output};
+use crate::{Directories, Piece, Reply, TextPairs, Texts, Told, Worked, push_line, push_output};
 use bytes::Bytes;
 use std::alloc::Global;
 use std::test::Fail;
-use wasi_base::{IoKind, OutOfMemory, TrapText};
+use wasi_base::{IoKind, OutOfMemory, Text, TrapText};
+use wasi_clocks::Datetime;
+use wasi_fs_types::{DescriptorStat, DescriptorType, ErrorCode};
 
 fn text_of(alloc: Global, replies: &[Reply]) -> Result<Vec<u8>, OutOfMemory> {
     let mut text = Vec::new(alloc);
@@ -80,17 +82,173 @@ fn the_environment_is_told(rt: HostRuntime) -> Result<(), Fail> {
         pairs_of(alloc, &[])?,
         pairs_of(alloc, &[("A", "")])?,
         pairs_of(alloc, &[("A=", "b,"), ("é", "ÿ")])?,
+    ];
+    let text = text_of(alloc, &replies)?;
+    assert_eq!(rt;
+        text.as_slice(),
+        b"env\nenv 41=-\nenv 413d=622c,c3a9=c3bf\n".as_slice()
+    );
+    Ok(())
+}
+
+#[test]
+fn arguments_are_told(rt: HostRuntime) -> Result<(), Fail> {
+    let alloc = rt.alloc();
+    let replies = [
         texts_of(alloc, &[])?,
         texts_of(alloc, &[""])?,
         texts_of(alloc, &["", "-", "é\n"])?,
+    ];
+    let text = text_of(alloc, &replies)?;
+    assert_eq!(rt;
+        text.as_slice(),
+        b"args\nargs -\nargs -,2d,c3a90a\n".as_slice()
+    );
+    Ok(())
+}
+
+#[test]
+fn the_first_directory_is_told(rt: HostRuntime) -> Result<(), Fail> {
+    let alloc = rt.alloc();
+    let replies = [
         cwd_of(alloc, "")?,
         cwd_of(alloc, "/a")?,
         Reply::Told(Told::Absent),
     ];
     let text = text_of(alloc, &replies)?;
+    assert_eq!(rt; text.as_slice(), b"cwd -\ncwd 2f61\nnone\n".as_slice());
+    Ok(())
+}
+
+fn flags(read: bool, write: bool, mutate_directory: bool) -> Reply {
+    Reply::Told(Told::Flags {
+        read,
+        write,
+        mutate_directory,
+    })
+}
+
+#[test]
+fn flags_and_types_are_told(rt: HostRuntime) -> Result<(), Fail> {
+    let alloc = rt.alloc();
+    let replies = [
+        flags(false, false, false),
+        flags(true, false, false),
+        flags(false, true, false),
+        flags(true, true, false),
+        flags(true, false, true),
+        flags(true, true, true),
+        Reply::Told(Told::Type(DescriptorType::Directory)),
+        Reply::Told(Told::Type(DescriptorType::RegularFile)),
+        Reply::Told(Told::Type(DescriptorType::SymbolicLink)),
+    ];
+    let text = text_of(alloc, &replies)?;
     assert_eq!(rt;
         text.as_slice(),
-        b"env\nenv 41=-\nenv 413d=622c,c3a9=c3bf\nargs\nargs -\nargs -,2d,c3a90a\ncwd -\ncwd 2f61\nnone\n".as_slice()
+        b"flags -\nflags r\nflags w\nflags rw\nflags rm\nflags rwm\ntype directory\ntype file\ntype link\n".as_slice()
+    );
+    Ok(())
+}
+
+fn time(seconds: i64, nanoseconds: u32) -> Option<Datetime> {
+    Some(Datetime {
+        seconds,
+        nanoseconds,
+    })
+}
+
+fn stat(type_: DescriptorType, size: u64, times: [Option<Datetime>; 3]) -> Reply {
+    Reply::Told(Told::Stat(DescriptorStat {
+        type_,
+        link_count: 1,
+        size,
+        data_access_timestamp: times[0],
+        data_modification_timestamp: times[1],
+        status_change_timestamp: times[2],
+    }))
+}
+
+#[test]
+fn nodes_are_told(rt: HostRuntime) -> Result<(), Fail> {
+    let alloc = rt.alloc();
+    let replies = [
+        stat(
+            DescriptorType::RegularFile,
+            2,
+            [time(0, 0), time(0, 0), time(0, 0)],
+        ),
+        stat(DescriptorType::Directory, 0, [None, None, None]),
+        stat(
+            DescriptorType::SymbolicLink,
+            18446744073709551615,
+            [
+                time(-1, 999999999),
+                time(9223372036854775807, 1000000000),
+                time(-9223372036854775808, 4294967295),
+            ],
+        ),
+        stat(
+            DescriptorType::RegularFile,
+            3,
+            [time(12, 7), None, time(-5, 0)],
+        ),
+    ];
+    let text = text_of(alloc, &replies)?;
+    assert_eq!(rt;
+        text.as_slice(),
+        b"stat file 1 2 0:0 0:0 0:0\nstat directory 1 0 none none none\nstat link 1 18446744073709551615 -1:999999999 9223372036854775807:1000000000 -9223372036854775808:4294967295\nstat file 1 3 12:7 none -5:0\n".as_slice()
+    );
+    Ok(())
+}
+
+fn link_of(alloc: Global, text: &str) -> Result<Reply, OutOfMemory> {
+    Ok(Reply::Told(Told::Text(Text::from_str(alloc, text)?)))
+}
+
+#[test]
+fn links_hashes_and_refusals_are_told(rt: HostRuntime) -> Result<(), Fail> {
+    let alloc = rt.alloc();
+    let replies = [
+        link_of(alloc, "d")?,
+        link_of(alloc, "")?,
+        Reply::Told(Told::Hash { node: 1, tree: 0 }),
+        Reply::Told(Told::Hash {
+            node: 0,
+            tree: 18446744073709551615,
+        }),
+        Reply::Told(Told::Err(ErrorCode::Loop)),
+        Reply::Told(Told::Err(ErrorCode::NotPermitted)),
+        Reply::Told(Told::Err(ErrorCode::NoEntry)),
+        Reply::Told(Told::Err(ErrorCode::IsDirectory)),
+    ];
+    let text = text_of(alloc, &replies)?;
+    assert_eq!(rt;
+        text.as_slice(),
+        b"text 64\ntext -\nhash 1 0\nhash 0 18446744073709551615\nerr loop\nerr not-permitted\nerr no-entry\nerr is-directory\n".as_slice()
+    );
+    Ok(())
+}
+
+fn directories_of(alloc: Global, paths: &[(u32, &str)]) -> Result<Reply, OutOfMemory> {
+    let mut kept = Vec::new(alloc);
+    for directory in paths {
+        kept.push((directory.0, Text::from_str(alloc, directory.1)?))?;
+    }
+    Ok(Reply::Directories(Directories::new(kept)))
+}
+
+#[test]
+fn directories_are_told(rt: HostRuntime) -> Result<(), Fail> {
+    let alloc = rt.alloc();
+    let replies = [
+        directories_of(alloc, &[])?,
+        directories_of(alloc, &[(0, "/")])?,
+        directories_of(alloc, &[(0, "/"), (7, ""), (4294967295, "é"), (10, "/a=,")])?,
+    ];
+    let text = text_of(alloc, &replies)?;
+    assert_eq!(rt;
+        text.as_slice(),
+        b"dirs\ndirs 0=2f\ndirs 0=2f,7=-,4294967295=c3a9,10=2f613d2c\n".as_slice()
     );
     Ok(())
 }

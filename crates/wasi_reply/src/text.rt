@@ -1,21 +1,33 @@
-ghost use Rattle.std.specs.Prelude.{◌≡◌, OnOk, OnErr, ◌++◌, [], ◌∷◌, codes, length, take};
+ghost use Rattle.std.specs.Prelude.{◌≡◌, Some, OnOk, OnErr, ◌++◌, [], ◌∷◌, codes, length, take};
 ghost use Rattle.std.specs.List.{AllByRecursion};
 ghost use Rattle.hex.specs.Hex.{IsBytes, encode_lower};
-ghost use Rattle.wasi_reply.specs.Field.{Field, IsField, IsTrap, hex_of, pair_text, worded};
-ghost use Rattle.wasi_reply.specs.Reply.{IsReply, told_fields, worked_fields, text_of, reply_line};
+ghost use Rattle.wasi_reply.specs.Field.{Field, IsDirectory, IsField, IsTime, IsTrap, directory_text, field_text, fields_text, flags_text, hex_of, pair_text, time_text, type_name, worded};
+ghost use Rattle.wasi_reply.specs.Reply.{IsReply, stat_fields, times_of, told_fields, worked_fields, text_of, reply_line};
 ghost use Rattle.wasi_reply.specs.Outputs.{output_line};
 ghost use Rattle.wasi_reply.specs.Texts.{text_pair, text_pairs, texts};
 
 use crate::{Reply, Told, Worked};
 use itoa::Buffer;
 use std::alloc::Global;
-use wasi_base::{IoKind, OutOfMemory, TrapText};
+use wasi_base::{IoKind, OutOfMemory, Text, TrapText};
+use wasi_clocks::Datetime;
+use wasi_fs_types::{DescriptorStat, DescriptorType, ErrorCode};
 
 fn push_word(text: &mut Vec<u8>, word: &[u8]) -> Result<(), OutOfMemory>
     ensures ok { OnOk result (text.new.items ≡ text.old.items ++ worded (word.now, [])) }
     ensures err { OnErr result (take (length text.old.items) text.new.items ≡ text.old.items) }
 {
     text.extend_from_slice(word)?;
+    Ok(())
+}
+
+fn push_name(text: &mut Vec<u8>, word: &[u8], name: &str) -> Result<(), OutOfMemory>
+    ensures ok { OnOk result (text.new.items ≡ text.old.items ++ (word.now ++ (codes " " ++ name.now))) }
+    ensures err { OnErr result (take (length text.old.items) text.new.items ≡ text.old.items) }
+{
+    text.extend_from_slice(word)?;
+    text.push(b' ')?;
+    text.extend_from_slice(name.as_bytes())?;
     Ok(())
 }
 
@@ -119,14 +131,169 @@ fn push_pairs(
     Ok(())
 }
 
+fn push_directory(text: &mut Vec<u8>, directory: &(u32, Text)) -> Result<(), OutOfMemory>
+    ensures ok { OnOk result (text.new.items ≡ text.old.items ++ directory_text directory.now) }
+    ensures err { OnErr result (take (length text.old.items) text.new.items ≡ text.old.items) }
+{
+    let mut buffer = Buffer::new();
+    text.extend_from_slice(buffer.format(directory.0).as_bytes())?;
+    text.push(b'=')?;
+    push_digits_or_dash(text, directory.1.as_str().as_bytes())
+}
+
+// at least as many bytes as the item takes with the byte before it
+fn room_for(directory: &(u32, Text)) -> usize
+    ensures in_range { IsDirectory directory.now }
+{
+    let mut buffer = Buffer::new();
+    let number = buffer.format(directory.0).len();
+    let path = directory.1.as_str().as_bytes();
+    path.len()
+        .saturating_mul(2)
+        .saturating_add(number)
+        .saturating_add(3)
+}
+
+fn room_for_all(directories: &[(u32, Text)]) -> usize
+    ensures in_range { AllByRecursion IsDirectory directories.now }
+{
+    let mut room: usize = 0;
+    for directory in directories {
+        room = room.saturating_add(room_for(directory));
+    }
+    room
+}
+
+fn push_directories(
+    text: &mut Vec<u8>,
+    word: &[u8],
+    directories: &[(u32, Text)],
+) -> Result<(), OutOfMemory>
+    ensures ok { OnOk result (text.new.items ≡ text.old.items ++ worded (word.now, Field.Directories directories.now ∷ [])) }
+    ensures err { OnErr result (take (length text.old.items) text.new.items ≡ text.old.items) }
+    ensures in_range { IsField (Field.Directories directories.now) }
+{
+    let mut before = b' ';
+    text.reserve(room_for_all(directories))?;
+    text.extend_from_slice(word)?;
+    for directory in directories {
+        text.push(before)?;
+        push_directory(text, directory)?;
+        before = b',';
+    }
+    Ok(())
+}
+
 fn push_kind(text: &mut Vec<u8>, word: &[u8], kind: IoKind) -> Result<(), OutOfMemory>
     ensures ok { OnOk result (text.new.items ≡ text.old.items ++ worded (word.now, Field.Kind kind ∷ [])) }
     ensures err { OnErr result (take (length text.old.items) text.new.items ≡ text.old.items) }
 {
-    text.extend_from_slice(word)?;
-    text.push(b' ')?;
-    text.extend_from_slice(kind.name().as_bytes())?;
+    push_name(text, word, kind.name())
+}
+
+fn push_code(text: &mut Vec<u8>, word: &[u8], code: ErrorCode) -> Result<(), OutOfMemory>
+    ensures ok { OnOk result (text.new.items ≡ text.old.items ++ worded (word.now, Field.Code code ∷ [])) }
+    ensures err { OnErr result (take (length text.old.items) text.new.items ≡ text.old.items) }
+{
+    push_name(text, word, code.name())
+}
+
+fn name_of(type_: DescriptorType) -> &'static str
+    ensures { result.now ≡ type_name type_ }
+{
+    match type_ {
+        DescriptorType::Unknown => "unknown",
+        DescriptorType::BlockDevice => "block-device",
+        DescriptorType::CharacterDevice => "character-device",
+        DescriptorType::Directory => "directory",
+        DescriptorType::SymbolicLink => "link",
+        DescriptorType::RegularFile => "file",
+    }
+}
+
+fn push_type(text: &mut Vec<u8>, word: &[u8], type_: DescriptorType) -> Result<(), OutOfMemory>
+    ensures ok { OnOk result (text.new.items ≡ text.old.items ++ worded (word.now, Field.NodeType type_ ∷ [])) }
+    ensures err { OnErr result (take (length text.old.items) text.new.items ≡ text.old.items) }
+{
+    push_name(text, word, name_of(type_))
+}
+
+fn letters_of(read: bool, write: bool, mutate_directory: bool) -> &'static str
+    ensures { result.now ≡ flags_text read write mutate_directory }
+{
+    match (read, write, mutate_directory) {
+        (false, false, false) => "-",
+        (false, false, true) => "m",
+        (false, true, false) => "w",
+        (false, true, true) => "wm",
+        (true, false, false) => "r",
+        (true, false, true) => "rm",
+        (true, true, false) => "rw",
+        (true, true, true) => "rwm",
+    }
+}
+
+fn push_seconds(text: &mut Vec<u8>, time: Datetime) -> Result<(), OutOfMemory>
+    ensures ok { OnOk result (text.new.items ≡ text.old.items ++ time_text (Some time)) }
+    ensures err { OnErr result (take (length text.old.items) text.new.items ≡ text.old.items) }
+    ensures in_range { IsTime (Some time) }
+{
+    let mut seconds = Buffer::new();
+    let mut nanoseconds = Buffer::new();
+    text.extend_from_slice(seconds.format(time.seconds).as_bytes())?;
+    text.push(b':')?;
+    text.extend_from_slice(nanoseconds.format(time.nanoseconds).as_bytes())?;
     Ok(())
+}
+
+fn push_time(text: &mut Vec<u8>, time: Option<Datetime>) -> Result<(), OutOfMemory>
+    ensures ok { OnOk result (text.new.items ≡ text.old.items ++ field_text (Field.Time time)) }
+    ensures err { OnErr result (take (length text.old.items) text.new.items ≡ text.old.items) }
+    ensures in_range { IsTime time }
+{
+    match time {
+        None => push_name(text, b"", "none"),
+        Some(time) => {
+            text.push(b' ')?;
+            push_seconds(text, time)
+        }
+    }
+}
+
+// out of memory at one time leaves out that one alone
+fn push_times(text: &mut Vec<u8>, stat: &DescriptorStat) -> Result<(), OutOfMemory>
+    ensures ok { OnOk result (text.new.items ≡ text.old.items ++ fields_text (times_of stat.now)) }
+    ensures err { OnErr result (take (length text.old.items) text.new.items ≡ text.old.items) }
+    ensures in_range { AllByRecursion IsField (times_of stat.now) }
+{
+    let access = push_time(text, stat.data_access_timestamp);
+    let modification = push_time(text, stat.data_modification_timestamp);
+    let change = push_time(text, stat.status_change_timestamp);
+    access.and(modification).and(change)
+}
+
+fn push_node(
+    text: &mut Vec<u8>,
+    word: &[u8],
+    type_: DescriptorType,
+    link_count: u64,
+    size: u64,
+) -> Result<(), OutOfMemory>
+    ensures ok { OnOk result (text.new.items ≡ text.old.items ++ worded (word.now, Field.NodeType type_ ∷ Field.Number link_count ∷ Field.Number size ∷ [])) }
+    ensures err { OnErr result (take (length text.old.items) text.new.items ≡ text.old.items) }
+{
+    push_type(text, word, type_)?;
+    push_numbers(text, b"", link_count, size)
+}
+
+fn push_stat(text: &mut Vec<u8>, word: &[u8], stat: &DescriptorStat) -> Result<(), OutOfMemory>
+    ensures ok { OnOk result (text.new.items ≡ text.old.items ++ worded (word.now, stat_fields stat.now)) }
+    ensures err { OnErr result (take (length text.old.items) text.new.items ≡ text.old.items) }
+    ensures in_range { AllByRecursion IsField (stat_fields stat.now) }
+{
+    let node = push_node(text, word, stat.type_, stat.link_count, stat.size);
+    let times = push_times(text, stat);
+    node.and(times)
 }
 
 fn push_trap(
@@ -165,6 +332,16 @@ fn push_told(alloc: Global, text: &mut Vec<u8>, told: &Told) -> Result<(), OutOf
         Told::Environment(variables) => push_pairs(text, b"env", variables.as_slice()),
         Told::Arguments(arguments) => push_texts(text, b"args", arguments.as_slice()),
         Told::Cwd(cwd) => push_hex(text, b"cwd", cwd.as_str().as_bytes()),
+        Told::Flags {
+            read,
+            write,
+            mutate_directory,
+        } => push_name(text, b"flags", letters_of(*read, *write, *mutate_directory)),
+        Told::Type(type_) => push_type(text, b"type", *type_),
+        Told::Stat(stat) => push_stat(text, b"stat", stat),
+        Told::Text(link) => push_hex(text, b"text", link.as_str().as_bytes()),
+        Told::Hash { node, tree } => push_numbers(text, b"hash", *node, *tree),
+        Told::Err(code) => push_code(text, b"err", *code),
         Told::Absent => push_word(text, b"none"),
         Told::Pending => push_word(text, b"pending"),
         Told::Closed => push_word(text, b"closed"),
@@ -197,6 +374,9 @@ fn push_text(alloc: Global, text: &mut Vec<u8>, reply: &Reply) -> Result<(), Out
 {
     match reply {
         Reply::Handle(number) => push_number(text, b"handle", u64::from(*number)),
+        Reply::Directories(directories) => {
+            push_directories(text, b"dirs", directories.as_slice())
+        }
         Reply::Told(told) => push_told(alloc, text, told),
         Reply::Ended => push_word(text, b"ended"),
         Reply::Worked(worked) => push_worked(text, worked),

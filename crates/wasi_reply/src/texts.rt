@@ -2,34 +2,7 @@ ghost use Rattle.std.specs.Prelude.{◌≡◌, string_bytes};
 ghost use Rattle.wasi_reply.specs.Texts.{texts, text_pairs};
 
 use std::marker::Model;
-
-/// A text that a reply shows. Contracts see its bytes.
-#[derive(Drop)]
-pub struct Text {
-    kept: String,
-}
-
-impl Model for Text {
-    ghost use Rattle.std.specs.Prelude.{ℕ, List, string_bytes};
-
-    ghost Value = { List ℕ };
-
-    ghost view = { λ text. string_bytes text.kept };
-}
-
-impl Text {
-    pub fn new(text: String) -> Text
-        ensures { result ≡ string_bytes text }
-    {
-        Text { kept: text }
-    }
-
-    pub fn as_str(&self) -> &str
-        ensures { result.now ≡ self.now }
-    {
-        self.kept.as_str()
-    }
-}
+use wasi_base::Text;
 
 /// Texts that a reply shows, in order. Contracts see a list of their bytes.
 #[derive(Drop)]
@@ -84,6 +57,35 @@ impl TextPairs {
 
     pub fn as_slice(&self) -> &[(String, String)]
         ensures { text_pairs result.now ≡ self.now }
+    {
+        self.kept.as_slice()
+    }
+}
+
+/// Directories that a guest was given, in order. Contracts see a list of their numbers, each with the
+/// bytes of the directory's path.
+#[derive(Drop)]
+pub struct Directories {
+    kept: Vec<(u32, Text)>,
+}
+
+impl Model for Directories {
+    ghost use Rattle.std.specs.Prelude.{ℕ, List};
+
+    ghost Value = { List (ℕ × List ℕ) };
+
+    ghost view = { λ it. it.kept.items };
+}
+
+impl Directories {
+    pub fn new(kept: Vec<(u32, Text)>) -> Directories
+        ensures { result ≡ kept.items }
+    {
+        Directories { kept }
+    }
+
+    pub fn as_slice(&self) -> &[(u32, Text)]
+        ensures { result.now ≡ self.now }
     {
         self.kept.as_slice()
     }

@@ -5,6 +5,10 @@ pub use Rattle.wasi_words.specs.Fields.{words_of, number_of, u128_of, number_bet
 abbrev pub guest_of : List ℕ → Option ℕ
 guest_of = number_between 0 63
 
+-- the number of a named context
+abbrev pub context_id_of : List ℕ → Option ℕ
+context_id_of = number_between 0 15
+
 -- a table's capacity
 abbrev pub capacity_of : List ℕ → Option ℕ
 capacity_of = number_between 1 65536

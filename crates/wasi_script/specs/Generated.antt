@@ -2,6 +2,7 @@
 use Rattle.std.specs.Prelude.{ℕ, zero, suc, ◌+◌, ◌*◌, ◌/◌, ◌%◌, cond, nat_eq, List, [], ◌∷◌, ◌++◌, drop, map, codes}
 use Rattle.std.specs.Fmt.{decimal}
 use Rattle.std.specs.List.{range_with_len}
+use Rattle.wasi_script.specs.Contexts.{main_context}
 use Rattle.wasi_script.specs.declared.lines.Line.{Line}
 use Rattle.wasi_script.specs.declared.lines.Line.TheVariants as line
 use Rattle.wasi_script.specs.declared.lines.WorkerTurn.TheVariants as turn
@@ -35,11 +36,11 @@ text_of_kind kind size =
 -- .. and its step
 abbrev pub step_of_kind : ℕ → ℕ → Line
 step_of_kind kind size =
-    cond (nat_eq kind 0) (line.Call 0 (call.On 0 (on.Read size)))
-    (cond (nat_eq kind 1) (line.Call 1 (call.On 0 (on.Read size)))
+    cond (nat_eq kind 0) (line.Call (main_context 0) (call.On 0 (on.Read size)))
+    (cond (nat_eq kind 1) (line.Call (main_context 1) (call.On 0 (on.Read size)))
     (cond (nat_eq kind 2) (line.Worker turn.Capture)
     (cond (nat_eq kind 3) (line.Worker turn.Deliver)
-    (cond (nat_eq kind 4) (line.Call 0 (call.On 0 (on.Skip size))) (line.Call 1 (call.On 1 (on.PollRead size)))))))
+    (cond (nat_eq kind 4) (line.Call (main_context 0) (call.On 0 (on.Skip size))) (line.Call (main_context 1) (call.On 1 (on.PollRead size)))))))
 
 abbrev pub kind_of : ℕ → ℕ
 kind_of x = x / 256 % 6
@@ -55,9 +56,9 @@ abbrev pub opening_steps : List Line
 opening_steps =
     line.Guest 0 input.Shared
     ∷ line.Guest 1 input.Shared
-    ∷ line.Call 0 (call.Open standard.Input access.Plain)
-    ∷ line.Call 1 (call.Open standard.Input access.Plain)
-    ∷ line.Call 1 (call.Open standard.Input access.Polled)
+    ∷ line.Call (main_context 0) (call.Open standard.Input access.Plain)
+    ∷ line.Call (main_context 1) (call.Open standard.Input access.Plain)
+    ∷ line.Call (main_context 1) (call.Open standard.Input access.Polled)
     ∷ []
 
 -- the lines of these numbers, each with its end

@@ -1,16 +1,25 @@
 -- Which scripts are valid, and the steps that they stand for.
-use Rattle.std.specs.Prelude.{◌≡◌, ℕ, ◌+◌, Bool, true, false, cond, not, ◌&&◌, nat_eq, nat_le, nat_lt, List, [], ◌∷◌, ◌++◌, length, Option, Some, None, codes}
+use Rattle.std.specs.Prelude.{◌≡◌, ℕ, ◌+◌, Bool, true, false, cond, not, ◌&&◌, nat_eq, nat_le, nat_lt, List, [], ◌∷◌, ◌++◌, length, Option, Some, None, unwrap_or, codes}
 use Rattle.std.specs.List.{list_any, slice_split}
 use Rattle.std.specs.Option.{option_map}
 use Rattle.std.specs.Str.{bytes_eq}
 pub use Rattle.wasi_words.specs.Fields.{Form, meaning_by, lines_of}
+use Rattle.wasi_script.specs.Contexts.{named_of, context_of, same_context}
 use Rattle.wasi_script.specs.Fields.{words_of, guest_of, number_of, u128_of, capacity_of, room_of, budget_of, exit_code_of, is_at_end, with_first, with_last, two_fields}
 use Rattle.wasi_script.specs.Name.{name_of}
+use Rattle.wasi_clocks.specs.WallTimes.{no_time}
+use Rattle.wasi_clocks.specs.declared.wall_times.WallTime.{WallTime}
 use Rattle.wasi_script.specs.Times.{time_of}
+use Rattle.wasi_script.specs.Trees.{Growing, with_tree, has_room, with_node}
 use Rattle.wasi_script.specs.Bytes.{byte_string_of, declared_bytes_of, text_of}
+use Rattle.wasi_script.specs.Descriptors.{descriptor_calls, path_calls, pair_calls}
 use Rattle.wasi_script.specs.Plans.{read_plan_of, write_plan_of}
 use Rattle.wasi_base.specs.declared.source.Plan.{Plan}
 use Rattle.wasi_base.specs.declared.sink.SinkPlan.{SinkPlan}
+use Rattle.wasi_base.specs.IoKind.{kind_named}
+use Rattle.wasi_fs_types.specs.declared.descriptor.FsPerms.{FsPerms}
+use Rattle.wasi_fs_types.specs.declared.descriptor.FsPerms.TheVariants as perms
+use Rattle.wasi_script.specs.declared.lines.Context.{Context}
 use Rattle.wasi_script.specs.declared.lines.Line.{Line}
 use Rattle.wasi_script.specs.declared.lines.Line.TheVariants as line
 use Rattle.wasi_script.specs.declared.lines.InputDeclaration.{InputDeclaration}
@@ -19,6 +28,8 @@ use Rattle.wasi_script.specs.declared.lines.OutputDeclaration.{OutputDeclaration
 use Rattle.wasi_script.specs.declared.lines.OutputDeclaration.TheVariants as output_declaration
 use Rattle.wasi_script.specs.declared.lines.Setting.{Setting}
 use Rattle.wasi_script.specs.declared.lines.Setting.TheVariants as setting
+use Rattle.wasi_script.specs.declared.lines.NewNode.{NewNode}
+use Rattle.wasi_script.specs.declared.lines.NewNode.TheVariants as new
 use Rattle.wasi_script.specs.declared.lines.RandomSource.{RandomSource}
 use Rattle.wasi_script.specs.declared.lines.RandomSource.TheVariants as source
 use Rattle.wasi_script.specs.declared.lines.WorkerTurn.TheVariants as turn
@@ -75,8 +86,8 @@ output_of word =
 abbrev pub exit_of : List ℕ → Option ExitStatus
 exit_of word = cond (bytes_eq word (codes "ok")) (Some exit.Ok) (cond (bytes_eq word (codes "err")) (Some exit.Err) None)
 
--- the calls that open a standard stream, those on an entry, those on the clocks, on the random sources and on terminals,
--- and the others
+-- the calls that open a standard stream, those on an entry, on the clocks, on the random sources, on terminals and on
+-- descriptors, and the others
 abbrev pub open_calls : List (Form Call)
 open_calls =
     (codes "get-stdin", without_fields (call.Open standard.Input access.Plain))
@@ -124,6 +135,7 @@ other_calls =
     ∷ (codes "get-environment", without_fields (call.Own own.Environment))
     ∷ (codes "get-arguments", without_fields (call.Own own.Arguments))
     ∷ (codes "initial-cwd", without_fields (call.Own own.InitialCwd))
+    ∷ (codes "get-directories", without_fields (call.Own own.Directories))
     ∷ []
 
 -- a call on the clocks, without fields and with a number
@@ -166,7 +178,7 @@ random_calls =
     ∷ []
 
 abbrev pub call_of : List (List ℕ) → Option Call
-call_of = meaning_by (open_calls ++ (entry_calls ++ (other_calls ++ (clock_calls ++ (random_calls ++ terminal_calls)))))
+call_of = meaning_by (open_calls ++ (entry_calls ++ (descriptor_calls ++ (path_calls ++ (pair_calls ++ (other_calls ++ (clock_calls ++ (random_calls ++ terminal_calls))))))))
 
 -- the steps' fields
 abbrev pub pipe_of : List (List ℕ) → Option Line
@@ -195,23 +207,52 @@ buffered_of = with_first name_of (λ name. with_first room_of (λ room. with_fir
 abbrev pub guest_line_of : List (List ℕ) → Option Line
 guest_line_of = with_first guest_of (λ guest. with_last input_of (line.Guest guest))
 
--- a guest, and a setting of it
+abbrev pub context_line_of : List (List ℕ) → Option Line
+context_line_of = with_first named_of (λ at. with_last input_of (line.Context at.0 at.1))
+
+abbrev pub capacity_line_of : List (List ℕ) → Option Line
+capacity_line_of = with_first guest_of (λ guest. with_last capacity_of (line.Capacity guest))
+
+-- a context, and a setting of it
 abbrev pub setting_of : {A : Type 0} → (List ℕ → Option A) → (A → Setting) → List (List ℕ) → Option Line
-setting_of field it fields = option_map (λ both. line.Configure both.0 (it both.1)) (two_fields guest_of field fields)
+setting_of field it fields = option_map (λ both. line.Configure both.0 (it both.1)) (two_fields context_of field fields)
 
--- a guest, and a variable of its environment
+-- a variable of the environment
 abbrev pub env_of : List (List ℕ) → Option Line
-env_of = with_first guest_of (λ guest. with_first text_of (λ key. with_last text_of (λ value. line.Configure guest (setting.Env key value))))
+env_of = with_first context_of (λ context. with_first text_of (λ key. with_last text_of (λ value. line.Configure context (setting.Env key value))))
 
--- a random source of a guest, and what it is set to
+-- a random source of a context, and what it is set to
 abbrev pub source_of_word : List ℕ → Option RandomSource
 source_of_word word = cond (bytes_eq word (codes "secure")) (Some source.Secure) (cond (bytes_eq word (codes "insecure")) (Some source.Insecure) None)
 
 abbrev pub source_set : {A : Type 0} → (List ℕ → Option A) → (RandomSource → A → Setting) → List (List ℕ) → Option Line
-source_set field it = with_first guest_of (λ guest. with_first source_of_word (λ from. with_last field (λ value. line.Configure guest (it from value))))
+source_set field it = with_first context_of (λ context. with_first source_of_word (λ from. with_last field (λ value. line.Configure context (it from value))))
+
+-- a directory that a context is given: a tree, its path, and what may be done there
+abbrev pub perms_of : List ℕ → Option FsPerms
+perms_of word = cond (bytes_eq word (codes "ro")) (Some perms.ReadOnly) (cond (bytes_eq word (codes "rw")) (Some perms.ReadWrite) None)
+
+abbrev pub preopen_of : List (List ℕ) → Option Line
+preopen_of = with_first context_of (λ context. with_first name_of (λ tree. with_first text_of (λ path. with_last perms_of (λ may. line.Configure context (setting.Preopen tree path may)))))
+
+abbrev pub yes_or_no : List ℕ → Option Bool
+yes_or_no word = cond (bytes_eq word (codes "yes")) (Some true) (cond (bytes_eq word (codes "no")) (Some false) None)
+
+-- a tree, and the path of a node in it
+abbrev pub tree_dir_of : List (List ℕ) → Option Line
+tree_dir_of = with_first name_of (λ tree. with_last text_of (λ path. line.Node tree path new.Directory))
+
+abbrev pub tree_file_of : List (List ℕ) → Option Line
+tree_file_of = with_first name_of (λ tree. with_first text_of (λ path. with_last byte_string_of (λ bytes. line.Node tree path (new.File bytes))))
+
+abbrev pub tree_link_of : List (List ℕ) → Option Line
+tree_link_of = with_first name_of (λ tree. with_first text_of (λ path. with_last text_of (λ text. line.Node tree path (new.Link text))))
+
+abbrev pub tree_fault_of : List (List ℕ) → Option Line
+tree_fault_of = with_first name_of (λ tree. with_last kind_named (line.TreeFault tree))
 
 abbrev pub call_line_of : List (List ℕ) → Option Line
-call_line_of = with_first guest_of (λ guest fields. option_map (line.Call guest) (call_of fields))
+call_line_of = with_first context_of (λ context fields. option_map (line.Call context) (call_of fields))
 
 -- `in` or `out`, and a name
 abbrev pub stream_tasks : List (Form StreamTask)
@@ -235,7 +276,7 @@ clock_settings =
 abbrev pub clock_of : List (List ℕ) → Option Line
 clock_of fields = option_map line.Clock (meaning_by clock_settings fields)
 
--- the steps that declare streams, those that say more of a guest, and the others
+-- the steps that declare streams, those that say more of a context, those on trees, and the others
 abbrev pub stream_lines : List (Form Line)
 stream_lines =
     (codes "pipe", pipe_of)
@@ -250,6 +291,8 @@ stream_lines =
 abbrev pub other_lines : List (Form Line)
 other_lines =
     (codes "guest", guest_line_of)
+    ∷ (codes "context", context_line_of)
+    ∷ (codes "capacity", capacity_line_of)
     ∷ (codes "capture", without_fields (line.Worker turn.Capture))
     ∷ (codes "deliver", without_fields (line.Worker turn.Deliver))
     ∷ (codes "turn", turn_of)
@@ -260,7 +303,6 @@ abbrev pub setting_lines : List (Form Line)
 setting_lines =
     (codes "stdout", setting_of output_of setting.Stdout)
     ∷ (codes "stderr", setting_of output_of setting.Stderr)
-    ∷ (codes "capacity", setting_of capacity_of setting.Capacity)
     ∷ (codes "env", env_of)
     ∷ (codes "arg", setting_of text_of setting.Arg)
     ∷ (codes "cwd", setting_of text_of setting.Cwd)
@@ -268,10 +310,21 @@ setting_lines =
     ∷ (codes "seeded", source_set number_of setting.Seeded)
     ∷ (codes "seed", setting_of u128_of setting.InsecureSeed)
     ∷ (codes "maxrandom", setting_of number_of setting.MaxRandom)
+    ∷ (codes "preopen", preopen_of)
+    ∷ (codes "blocking", setting_of yes_or_no setting.Blocking)
+    ∷ []
+
+abbrev pub tree_lines : List (Form Line)
+tree_lines =
+    (codes "tree", with_last name_of line.Tree)
+    ∷ (codes "treedir", tree_dir_of)
+    ∷ (codes "treefile", tree_file_of)
+    ∷ (codes "treelink", tree_link_of)
+    ∷ (codes "treefail", tree_fault_of)
     ∷ []
 
 abbrev pub line_of : List (List ℕ) → Option Line
-line_of = meaning_by ((codes "call", call_line_of) ∷ stream_lines ++ (other_lines ++ setting_lines))
+line_of = meaning_by ((codes "call", call_line_of) ∷ stream_lines ++ (other_lines ++ (setting_lines ++ tree_lines)))
 
 abbrev pub step_or_invalid : Option Line → Reading
 step_or_invalid None = Invalid
@@ -282,35 +335,58 @@ abbrev pub reading_of : List ℕ → Reading
 reading_of [] = Note
 reading_of (byte ∷ bytes) = cond (nat_eq byte 35) Note (step_or_invalid (line_of (words_of (byte ∷ bytes))))
 
--- What the lines so far declared: the guests, and which of them were called; the streams' names in order, at which of
--- them a task reads ahead or writes behind, and which are standard outputs of the host's process.
+-- What the lines so far declared: the guests, which of them were called, their named contexts, and which contexts were
+-- given directories; the streams' names in order, at which of them a task reads ahead or writes behind, and which are
+-- standard outputs of the host's process; the trees' names in order. A line may add to a tree while no guest was called; a
+-- node that it adds has the wall clock's time.
 pub record Names : Type 0 where
   pub is_guest : ℕ → Bool
   pub was_called : ℕ → Bool
+  pub is_context : ℕ → ℕ → Bool
   pub inputs : List (List ℕ)
   pub outputs : List (List ℕ)
   pub reads_ahead : List ℕ → Bool
   pub writes_behind : List ℕ → Bool
   pub has_stdio : List ℕ → Bool
+  pub has_preopen : ℕ → Option ℕ → Bool
+  pub trees : List (List ℕ)
+  pub growing : Option Growing
+  pub wall : WallTime
 
 abbrev pub no_names : Names
 no_names = record {
   is_guest = λ number. false;
   was_called = λ number. false;
+  is_context = λ guest id. false;
   inputs = [];
   outputs = [];
   reads_ahead = λ name. false;
   writes_behind = λ name. false;
   has_stdio = λ name. false;
+  has_preopen = λ guest context. false;
+  trees = [];
+  growing = Some [];
+  wall = no_time;
 }
 
 -- a name among others
 abbrev pub is_among : List ℕ → List (List ℕ) → Bool
 is_among name names = list_any (bytes_eq name) names
 
--- a stream may be declared under a new name, while there are fewer than 64
+-- a name is new where neither a stream nor a tree has it
+abbrev pub is_new : Names → List ℕ → Bool
+is_new names name = not (is_among name names.inputs) && (not (is_among name names.outputs) && not (is_among name names.trees))
+
+-- a stream may be declared under a new name, while there are fewer than 64, and a tree, while there are fewer than 16
 abbrev pub may_declare : Names → List ℕ → Bool
-may_declare names name = nat_lt (length names.inputs + length names.outputs) 64 && (not (is_among name names.inputs) && not (is_among name names.outputs))
+may_declare names name = nat_lt (length names.inputs + length names.outputs) 64 && is_new names name
+
+abbrev pub may_declare_tree : Names → List ℕ → Bool
+may_declare_tree names name = nat_lt (length names.trees) 16 && is_new names name
+
+-- a line adds to a tree before the first call of any guest
+abbrev pub node_stands : Names → List ℕ → List ℕ → NewNode → Bool
+node_stands names tree path it = unwrap_or (option_map (has_room tree path it names.wall) names.growing) false
 
 -- a guest's input is none that a name says, or a declared one
 abbrev pub input_stands : Names → Input → Bool
@@ -323,12 +399,14 @@ output_stands names (output.Named name) = is_among name names.outputs
 output_stands names (output.Terminal name) = names.has_stdio name
 output_stands names other = true
 
-abbrev pub setting_stands : Names → Setting → Bool
-setting_stands names (setting.Stdout it) = output_stands names it
-setting_stands names (setting.Stderr it) = output_stands names it
-setting_stands names (setting.Capacity capacity) = nat_le 1 capacity && nat_le capacity 65536
-setting_stands names (setting.Random from bytes) = nat_le 1 (length bytes)
-setting_stands names other = true
+-- the directories of a context come after the line that says how their streams work
+abbrev pub setting_stands : Names → Context → Setting → Bool
+setting_stands names context (setting.Stdout it) = output_stands names it
+setting_stands names context (setting.Stderr it) = output_stands names it
+setting_stands names context (setting.Random from bytes) = nat_le 1 (length bytes)
+setting_stands names context (setting.Preopen tree path perms) = is_among tree names.trees
+setting_stands names context (setting.Blocking it) = not (names.has_preopen context.guest context.named)
+setting_stands names context other = true
 
 -- a buffered output's budget is one byte at least
 abbrev pub budget_stands : OutputDeclaration → Bool
@@ -344,13 +422,22 @@ turn_stands names (task.Writer name) = names.writes_behind name
 abbrev pub may_set_up : Names → ℕ → Bool
 may_set_up names guest = names.is_guest guest && not (names.was_called guest)
 
+-- a guest's main context is there with the guest, a named one where it is declared
+abbrev pub context_stands : Names → Context → Bool
+context_stands names context = unwrap_or (option_map (names.is_context context.guest) context.named) true
+
 -- a step may stand after these lines
 abbrev pub may_stand : Names → Line → Bool
 may_stand names (line.Input name it) = may_declare names name
 may_stand names (line.Output name it) = may_declare names name && budget_stands it
+may_stand names (line.Tree name) = may_declare_tree names name
+may_stand names (line.Node tree path it) = node_stands names tree path it
+may_stand names (line.TreeFault tree kind) = is_among tree names.trees
 may_stand names (line.Guest guest it) = nat_lt guest 64 && (not (names.is_guest guest) && input_stands names it)
-may_stand names (line.Configure guest it) = may_set_up names guest && setting_stands names it
-may_stand names (line.Call guest it) = names.is_guest guest
+may_stand names (line.Context guest id it) = may_set_up names guest && (nat_lt id 16 && (not (names.is_context guest id) && input_stands names it))
+may_stand names (line.Capacity guest capacity) = may_set_up names guest && (nat_le 1 capacity && nat_le capacity 65536)
+may_stand names (line.Configure context it) = may_set_up names context.guest && (context_stands names context && setting_stands names context it)
+may_stand names (line.Call context it) = names.is_guest context.guest && context_stands names context
 may_stand names (line.Worker it) = true
 may_stand names (line.Turn it) = turn_stands names it
 may_stand names (line.Clock it) = true
@@ -376,18 +463,39 @@ known guest it test number = cond (nat_eq number guest) it (test number)
 abbrev pub also : ℕ → (ℕ → Bool) → ℕ → Bool
 also guest = known guest true
 
+abbrev pub also_context : ℕ → ℕ → (ℕ → ℕ → Bool) → ℕ → ℕ → Bool
+also_context guest id test number other = cond (nat_eq number guest && nat_eq other id) true (test number other)
+
 abbrev pub named : List ℕ → Bool → (List ℕ → Bool) → List ℕ → Bool
 named name it test other = cond (bytes_eq other name) it (test other)
+
+-- a context was given a directory
+abbrev pub is_given : Setting → Bool
+is_given (setting.Preopen tree path perms) = true
+is_given other = false
+
+abbrev pub also_given : Context → Bool → (ℕ → Option ℕ → Bool) → ℕ → Option ℕ → Bool
+also_given context it test guest named = cond (it && (nat_eq guest context.guest && same_context named context.named)) true (test guest named)
+
+-- what a clock's line leaves of the wall clock's time
+abbrev pub wall_after : WallTime → ClockSetting → WallTime
+wall_after wall (clock_setting.Wall time) = time
+wall_after wall other = wall
 
 abbrev pub names_after : Names → Line → Names
 names_after names (line.Input name it) = record names { inputs = names.inputs ++ name ∷ []; reads_ahead = named name (is_read_ahead it) names.reads_ahead }
 names_after names (line.Output name it) = record names { outputs = names.outputs ++ name ∷ []; writes_behind = named name (is_written_behind it) names.writes_behind; has_stdio = named name (is_stdio it) names.has_stdio }
+names_after names (line.Tree name) = record names { trees = names.trees ++ name ∷ []; growing = option_map (with_tree name names.wall) names.growing }
+names_after names (line.Node tree path it) = record names { growing = option_map (with_node tree path it names.wall) names.growing }
+names_after names (line.TreeFault tree kind) = names
 names_after names (line.Guest guest it) = record names { is_guest = also guest names.is_guest }
-names_after names (line.Configure guest it) = names
-names_after names (line.Call guest it) = record names { was_called = also guest names.was_called }
+names_after names (line.Context guest id it) = record names { is_context = also_context guest id names.is_context }
+names_after names (line.Capacity guest capacity) = names
+names_after names (line.Configure context it) = record names { has_preopen = also_given context (is_given it) names.has_preopen }
+names_after names (line.Call context it) = record names { was_called = also context.guest names.was_called; growing = None }
 names_after names (line.Worker it) = names
 names_after names (line.Turn it) = names
-names_after names (line.Clock it) = names
+names_after names (line.Clock it) = record names { wall = wall_after names.wall it }
 
 -- .. and after all of some steps
 abbrev pub names_end : Names → List Line → Names

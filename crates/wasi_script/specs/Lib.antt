@@ -1,5 +1,7 @@
 pub mod Bytes
+pub mod Contexts
 pub mod Declarations
+pub mod Descriptors
 pub mod Fields
 pub mod Grammar
 pub mod Generated
@@ -10,4 +12,6 @@ pub mod Reads
 pub mod Refused
 pub mod Rows
 pub mod Times
+pub mod TreeRows
+pub mod Trees
 pub mod laws

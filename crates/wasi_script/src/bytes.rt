@@ -1,5 +1,5 @@
 ghost use Rattle.std.specs.Prelude.{◌≡◌, length, IfOk};
-ghost use Rattle.wasi_script.specs.Bytes.{hex_of, byte_of, plain_bytes_of, repeated_of, byte_string_of, declared_bytes_of, declared_bytes};
+ghost use Rattle.wasi_script.specs.Bytes.{hex_of, byte_of, plain_bytes_of, repeated_of, byte_string_of, declared_bytes_of, declared_bytes, text_of};
 ghost use Rattle.wasi_script.specs.Reads.{Reads, ReadsItems};
 
 use crate::numbers::parse_count;
@@ -7,7 +7,7 @@ use crate::refusal::Refusal;
 use hex::{FromHex, FromHexError};
 use std::alloc::Global;
 use std::marker::Model;
-use wasi_base::OutOfMemory;
+use wasi_base::{OutOfMemory, Text};
 use wasi_words::{Parts, is, only};
 
 /// Bytes of a script's field. Contracts see them as a list.
@@ -127,6 +127,15 @@ pub fn read_plain_bytes(alloc: Global, text: &[u8]) -> Result<Vec<u8>, Refusal>
     } else {
         read_digits(alloc, text)
     }
+}
+
+/// The text that a field stands for: `-` for an empty one, or hexadecimal digits. Refused where its
+/// bytes are not UTF-8.
+pub(crate) fn read_text(alloc: Global, field: &[u8]) -> Result<Text, Refusal>
+    ensures { Reads result (text_of field.now) }
+{
+    let bytes = read_plain_bytes(alloc, field)?;
+    Text::from_utf8(bytes).ok_or(Refusal::Invalid)
 }
 
 // one byte at least, in hexadecimal

@@ -1,16 +1,28 @@
-ghost use Rattle.std.specs.Prelude.{◌≡◌, ◌+◌, ◌<◌, length, slice_index_or, true, false, OnOk, OnErr};
-ghost use Rattle.wasi_script.specs.Grammar.{Names, may_stand, may_declare, budget_stands, may_set_up, input_stands, output_stands, setting_stands, turn_stands, names_after, no_names, is_among};
-ghost use Rattle.wasi_script.specs.Declarations.{input_flags, output_flags};
+ghost use Rattle.std.specs.Prelude.{◌≡◌, ◌+◌, ◌<◌, length, slice_index_or, option_map, option_copied, option_and_then, true, false, IfSome, OnOk, OnErr};
+ghost use Rattle.std.specs.Map.{lookup};
+ghost use Rattle.std.specs.Str.{bytes_eq};
+ghost use Rattle.wasi_script.specs.Grammar.{Names, may_stand, is_new, may_declare, may_declare_tree, node_stands, budget_stands, may_set_up, context_stands, input_stands, output_stands, setting_stands, turn_stands, names_after, no_names, is_among, is_given, also_given, wall_after};
+ghost use Rattle.wasi_script.specs.Declarations.{input_flags, output_flags, context_at, given_at};
+ghost use Rattle.wasi_fs.specs.Calls.{directory_added, file_added, link_added};
+ghost use Rattle.wasi_script.specs.Trees.{is_added, node_added};
 ghost use Rattle.wasi_script.specs.declared.lines.Line.TheVariants as line;
+ghost use Rattle.wasi_clocks.specs.declared.wall_times.WallTime.{WallTime};
 
-use crate::lines::{Input, InputDeclaration, Line, Output, OutputDeclaration, Setting, StreamTask};
+use crate::bytes::ByteString;
+use crate::lines::{
+    ClockSetting, Context, Input, InputDeclaration, Line, NewNode, Output, OutputDeclaration,
+    Setting, StreamTask,
+};
 use crate::name::Name;
 use crate::name_set::{NameSet, StreamFlags};
+use crate::trees::Trees;
 use std::alloc::Global;
-use wasi_base::OutOfMemory;
+use wasi_base::{OutOfMemory, Text};
+use wasi_clocks::WallTime;
+use wasi_fs::Tree;
 
-/// Something that knows which guests, inputs and outputs there are, and which guests have called:
-/// what a parser took down of the lines so far, or a session that did them.
+/// Something that knows which guests, inputs, outputs and trees there are, and which guests have
+/// called: what a parser took down of the lines so far, or a session that did them.
 pub trait Declared {
     /// The names of what was declared.
     ghost names: { Self → Names };
@@ -35,6 +47,10 @@ pub trait Declared {
     fn was_called(&self, guest: u32) -> bool
         ensures { result ≡ (names self.now).was_called guest };
 
+    /// Whether the guest has a named context of this number.
+    fn has_context(&self, guest: u32, id: u32) -> bool
+        ensures { result ≡ (names self.now).is_context guest id };
+
     /// Whether there is an input of this name that a task reads ahead.
     fn reads_ahead(&self, name: &[u8]) -> bool
         ensures { result ≡ (names self.now).reads_ahead name.now };
@@ -47,6 +63,23 @@ pub trait Declared {
     fn has_stdio(&self, name: &[u8]) -> bool
         ensures { result ≡ (names self.now).has_stdio name.now };
 
+    /// Whether a context was given a directory.
+    fn was_given(&self, context: &Context) -> bool
+        ensures { result ≡ (names self.now).has_preopen context.now.guest context.now.named };
+
+    /// How many trees there are.
+    fn tree_count(&self) -> usize
+        ensures { result ≡ length (names self.now).trees };
+
+    /// Whether there is a tree of this name.
+    fn has_tree(&self, name: &[u8]) -> bool
+        ensures { result ≡ is_among name.now (names self.now).trees };
+
+    /// The tree of this name as lines made it, while lines may add to trees: before any guest's first
+    /// call.
+    fn growing(&self, name: &[u8]) -> Option<&Tree>
+        ensures { option_map (λ tree. tree.nodes) (option_copied result) ≡ option_and_then (lookup (bytes_eq name.now)) (names self.now).growing };
+
     /// Whether a line may stand after what was declared.
     final fn allow(&self, line: &Line) -> bool
         ensures { result ≡ may_stand (names self.now) line.now }
@@ -54,24 +87,61 @@ pub trait Declared {
         match line {
             Line::Input { name, input: _ } => self.allow_name(name),
             Line::Output { name, output } => self.allow_name(name) && has_budget(output),
+            Line::Tree { name } => self.allow_tree(name),
+            Line::Node { tree, path, node } => self.allow_node(tree, path, node),
+            Line::TreeFault { tree, kind: _ } => self.has_tree(tree.as_bytes()),
             Line::Guest { guest, input } => {
                 *guest < 64 && (!self.has_guest(*guest) && self.allow_input(input))
             }
-            Line::Configure { guest, setting } => {
-                self.allow_set_up(*guest) && self.allow_setting(setting)
+            Line::Context { guest, id, input } => {
+                self.allow_set_up(*guest)
+                    && (*id < 16 && (!self.has_context(*guest, *id) && self.allow_input(input)))
             }
-            Line::Call { guest, call: _ } => self.has_guest(*guest),
+            Line::Capacity { guest, capacity } => {
+                self.allow_set_up(*guest) && (1 <= *capacity && *capacity <= 65536)
+            }
+            Line::Configure { context, setting } => {
+                self.allow_set_up(context.guest)
+                    && (self.allow_context(context) && self.allow_setting(context, setting))
+            }
+            Line::Call { context, call: _ } => {
+                self.has_guest(context.guest) && self.allow_context(context)
+            }
             Line::Worker(_) | Line::Clock(_) => true,
             Line::Turn(task) => self.allow_turn(task),
         }
+    }
+
+    /// Whether a name is none of what was declared.
+    final fn is_new(&self, name: &Name) -> bool
+        ensures { result ≡ is_new (names self.now) name.now }
+    {
+        let name = name.as_bytes();
+        !self.has_input(name) && (!self.has_output(name) && !self.has_tree(name))
     }
 
     /// Whether a stream may be declared under a name.
     final fn allow_name(&self, name: &Name) -> bool
         ensures { result ≡ may_declare (names self.now) name.now }
     {
-        let name = name.as_bytes();
-        self.stream_count() < 64 && (!self.has_input(name) && !self.has_output(name))
+        self.stream_count() < 64 && self.is_new(name)
+    }
+
+    /// Whether a tree may be declared under a name.
+    final fn allow_tree(&self, name: &Name) -> bool
+        ensures { result ≡ may_declare_tree (names self.now) name.now }
+    {
+        self.tree_count() < 16 && self.is_new(name)
+    }
+
+    /// Whether a line may add a node to a tree.
+    final fn allow_node(&self, tree: &Name, path: &Text, node: &NewNode) -> bool
+        ensures { result ≡ node_stands (names self.now) tree.now path.now node.now }
+    {
+        match self.growing(tree.as_bytes()) {
+            Some(tree) => has_room(tree, path, node),
+            None => false,
+        }
     }
 
     /// Whether lines may say more of a guest.
@@ -81,16 +151,27 @@ pub trait Declared {
         self.has_guest(guest) && !self.was_called(guest)
     }
 
-    /// Whether they may say this of it.
-    final fn allow_setting(&self, setting: &Setting) -> bool
-        ensures { result ≡ setting_stands (names self.now) setting.now }
+    /// Whether a declared guest has this context.
+    final fn allow_context(&self, context: &Context) -> bool
+        ensures { result ≡ context_stands (names self.now) context.now }
+    {
+        match context.named {
+            None => true,
+            Some(id) => self.has_context(context.guest, id),
+        }
+    }
+
+    /// Whether they may say this of one of its contexts.
+    final fn allow_setting(&self, context: &Context, setting: &Setting) -> bool
+        ensures { result ≡ setting_stands (names self.now) context.now setting.now }
     {
         match setting {
             Setting::Stdout(output) | Setting::Stderr(output) => self.allow_output(output),
-            Setting::Capacity(capacity) => 1 <= *capacity && *capacity <= 65536,
             Setting::Random { source: _, bytes } => 1 <= bytes.len(),
             Setting::Seeded { .. } | Setting::InsecureSeed(_) | Setting::MaxRandom(_) => true,
             Setting::Env { .. } | Setting::Arg(_) | Setting::Cwd(_) => true,
+            Setting::Preopen { tree, .. } => self.has_tree(tree.as_bytes()),
+            Setting::Blocking(_) => !self.was_given(context),
         }
     }
 
@@ -126,6 +207,44 @@ pub trait Declared {
     }
 }
 
+// whether a tree has room for a directory, a file, a link
+fn room_for_directory(tree: &Tree, path: &str) -> bool
+    ensures { (now : WallTime) → result ≡ is_added (directory_added tree.now.nodes path.now now) }
+{
+    tree.may_add(path, 0).is_ok()
+}
+
+fn room_for_file(tree: &Tree, path: &str, bytes: &ByteString) -> bool
+    ensures { (now : WallTime) → result ≡ is_added (file_added tree.now.nodes path.now bytes.now now) }
+{
+    tree.may_add(path, bytes.len()).is_ok()
+}
+
+fn room_for_link(tree: &Tree, path: &str, text: &Text) -> bool
+    ensures { (now : WallTime) → result ≡ is_added (link_added tree.now.nodes path.now text.now now) }
+{
+    tree.may_add(path, 0).is_ok()
+}
+
+// .. for a node
+fn has_room(tree: &Tree, path: &Text, node: &NewNode) -> bool
+    ensures { (now : WallTime) → result ≡ is_added (node_added tree.now.nodes path.now node.now now) }
+{
+    let path = path.as_str();
+    match node {
+        NewNode::Directory => room_for_directory(tree, path),
+        NewNode::File(bytes) => room_for_file(tree, path, bytes),
+        NewNode::Link(text) => room_for_link(tree, path, text),
+    }
+}
+
+// a named context's flag
+fn has_context_flag(flags: &[bool; 1024], guest: u32, id: u32) -> bool
+    ensures { result ≡ context_at flags.now guest id }
+{
+    guest < 64 && (id < 16 && flags[guest as usize * 16 + id as usize])
+}
+
 // a buffered output's budget is one byte at least
 fn has_budget(output: &OutputDeclaration) -> bool
     ensures { result ≡ budget_stands output.now }
@@ -156,6 +275,24 @@ fn output_flags(output: &OutputDeclaration) -> StreamFlags
     }
 }
 
+// whether a setting gives its context a directory
+fn is_given(setting: &Setting) -> bool
+    ensures { result ≡ is_given setting.now }
+{
+    matches!(setting, Setting::Preopen { .. })
+}
+
+fn wall_after(wall: WallTime, setting: ClockSetting) -> WallTime
+    ensures { result ≡ wall_after wall setting }
+{
+    match setting {
+        ClockSetting::Wall(now) => now,
+        ClockSetting::Monotonic(_)
+        | ClockSetting::MonotonicResolution(_)
+        | ClockSetting::WallResolution(_) => wall,
+    }
+}
+
 // a guest's flag
 fn has_flag(flags: &[bool; 64], guest: u32) -> bool
     ensures { result ≡ slice_index_or flags.now guest false }
@@ -163,13 +300,21 @@ fn has_flag(flags: &[bool; 64], guest: u32) -> bool
     guest < 64 && flags[guest as usize]
 }
 
-/// What the lines so far declared: guests, inputs and outputs, and which of the guests have called.
+/// What the lines so far declared: guests and their contexts, inputs, outputs and trees, and which of
+/// the guests have called.
 #[derive(Drop)]
 pub struct Declarations {
     declared: [bool; 64],
     called: [bool; 64],
+    // 16 for each guest
+    contexts: [bool; 1024],
+    // which were given directories, main contexts and named ones
+    given: [bool; 64],
+    given_named: [bool; 1024],
     inputs: NameSet,
     outputs: NameSet,
+    trees: Trees,
+    wall: WallTime,
 }
 
 impl Declared for Declarations {
@@ -197,6 +342,10 @@ impl Declared for Declarations {
         has_flag(&self.called, guest)
     }
 
+    fn has_context(&self, guest: u32, id: u32) -> bool {
+        has_context_flag(&self.contexts, guest, id)
+    }
+
     fn reads_ahead(&self, name: &[u8]) -> bool {
         self.inputs.has_task(name)
     }
@@ -207,6 +356,25 @@ impl Declared for Declarations {
 
     fn has_stdio(&self, name: &[u8]) -> bool {
         self.outputs.has_stdio(name)
+    }
+
+    fn was_given(&self, context: &Context) -> bool {
+        match context.named {
+            None => has_flag(&self.given, context.guest),
+            Some(id) => has_context_flag(&self.given_named, context.guest, id),
+        }
+    }
+
+    fn tree_count(&self) -> usize {
+        self.trees.len()
+    }
+
+    fn has_tree(&self, name: &[u8]) -> bool {
+        self.trees.contains(name)
+    }
+
+    fn growing(&self, name: &[u8]) -> Option<&Tree> {
+        self.trees.growing(name)
     }
 }
 
@@ -219,8 +387,13 @@ impl Declarations {
         Declarations {
             declared: [false; 64],
             called: [false; 64],
+            contexts: [false; 1024],
+            given: [false; 64],
+            given_named: [false; 1024],
             inputs: NameSet::none(alloc),
             outputs: NameSet::none(alloc),
+            trees: Trees::none(alloc),
+            wall: WallTime::zero(),
         }
     }
 
@@ -239,9 +412,45 @@ impl Declarations {
                     .add(alloc, name.as_bytes(), output_flags(output))?;
             }
             Line::Guest { guest, input: _ } => self.declared[*guest as usize] = true,
-            Line::Call { guest, call: _ } => self.called[*guest as usize] = true,
-            Line::Configure { .. } | Line::Worker(_) | Line::Turn(_) | Line::Clock(_) => {}
+            Line::Context { guest, id, .. } => {
+                self.contexts[*guest as usize * 16 + *id as usize] = true;
+            }
+            Line::Tree { name } => self.trees.add(alloc, name, self.wall)?,
+            Line::Node { tree, path, node } => {
+                self.trees
+                    .add_node(alloc, tree.as_bytes(), path, node, self.wall)?;
+            }
+            Line::Configure { context, setting } => self.configure(context, setting),
+            Line::Clock(setting) => self.wall = wall_after(self.wall, *setting),
+            Line::Call { context, call: _ } => {
+                self.called[context.guest as usize] = true;
+                self.trees.close();
+            }
+            Line::TreeFault { .. } | Line::Capacity { .. } | Line::Worker(_) | Line::Turn(_) => {}
         }
         Ok(())
+    }
+
+    // what a line says of a context
+    fn configure(&mut self, context: &Context, setting: &Setting)
+        requires guest { context.now.guest < 64 }
+        requires named { IfSome context.now.named (λ id. id < 16) }
+        ensures { names_in self.new ≡ record (names_in self.old) { has_preopen = also_given context.now (is_given setting.now) (names_in self.old).has_preopen } }
+    {
+        if is_given(setting) {
+            self.give(context);
+        }
+    }
+
+    // a context is given a directory
+    fn give(&mut self, context: &Context)
+        requires guest { context.now.guest < 64 }
+        requires named { IfSome context.now.named (λ id. id < 16) }
+        ensures { names_in self.new ≡ record (names_in self.old) { has_preopen = also_given context.now true (names_in self.old).has_preopen } }
+    {
+        match context.named {
+            None => self.given[context.guest as usize] = true,
+            Some(id) => self.given_named[context.guest as usize * 16 + id as usize] = true,
+        }
     }
 }

@@ -1,6 +1,8 @@
 ghost use Rattle.std.specs.Prelude.{◌≡◌, ◌∷◌, ◌++◌, IfOk};
-ghost use Rattle.wasi_script.specs.Grammar.{meaning_by, without_fields, entry_calls, other_calls, clock_calls, random_calls, terminal_calls, clock_settings, on_clocks, on_random, source_of_word, source_set, other_lines, setting_lines, env_of, call_of, line_of, pipe_of, source_fields, out_pipe_of, sink_fields, buffered_of, turn_of, clock_of, guest_line_of, call_line_of, on_number as on_number_of, reading_of, exit_of, input_of, output_of, named_output};
-ghost use Rattle.wasi_script.specs.Fields.{with_first, two_fields, guest_of, number_of, u128_of, capacity_of};
+ghost use Rattle.wasi_script.specs.Grammar.{meaning_by, without_fields, entry_calls, other_calls, clock_calls, random_calls, terminal_calls, clock_settings, on_clocks, on_random, source_of_word, source_set, other_lines, setting_lines, tree_lines, call_of, line_of, pipe_of, source_fields, out_pipe_of, sink_fields, buffered_of, turn_of, clock_of, guest_line_of, context_line_of, capacity_line_of, env_of, call_line_of, on_number as on_number_of, reading_of, exit_of, input_of, output_of, named_output};
+ghost use Rattle.wasi_script.specs.Descriptors.{descriptor_calls, path_calls, pair_calls};
+ghost use Rattle.wasi_script.specs.Fields.{with_first, two_fields, number_of, u128_of};
+ghost use Rattle.wasi_script.specs.Contexts.{context_of};
 ghost use Rattle.wasi_script.specs.Name.{name_of};
 ghost use Rattle.wasi_script.specs.declared.lines.Setting.TheVariants as setting;
 ghost use Rattle.wasi_script.specs.Bytes.{byte_string_of, text_of};
@@ -10,20 +12,22 @@ ghost use Rattle.wasi_script.specs.declared.lines.RandomCall.TheVariants as rand
 ghost use Rattle.wasi_script.specs.declared.lines.Line.TheVariants as line;
 ghost use Rattle.wasi_script.specs.Reads.{Reads};
 
-use crate::bytes::ByteString;
+use crate::bytes::{ByteString, read_text};
+use crate::contexts::{parse_context, parse_named};
+use crate::descriptor_calls::parse_descriptor_call;
 use crate::lines::{
-    Access, Call, ClockCall, ClockSetting, EntryCall, ExitStatus, Input, InputDeclaration, Line,
-    Output, OutputDeclaration, OwnCall, RandomCall, RandomSource, Setting, Standard, StreamTask,
-    WorkerTurn,
+    Access, Call, ClockCall, ClockSetting, Context, EntryCall, ExitStatus, Input, InputDeclaration,
+    Line, Output, OutputDeclaration, OwnCall, RandomCall, RandomSource, Setting, Standard,
+    StreamTask, WorkerTurn,
 };
 use crate::name::Name;
 use crate::numbers::{parse_budget, parse_capacity, parse_exit_code, parse_guest, parse_room};
 use crate::plan::{ReadPlan, WritePlan};
 use crate::refusal::Refusal;
-use crate::text::Text;
 use crate::times::parse_time;
+use crate::tree_lines::{context_and_truth, parse_preopen, parse_tree_line};
 use std::alloc::Global;
-use wasi_base::OutOfMemory;
+use wasi_base::{OutOfMemory, Text};
 use wasi_words::{Parts, is, is_done, only, parse_number, parse_u128};
 
 /// What a line of text is.
@@ -80,10 +84,14 @@ fn parse_line(alloc: Global, mut words: Parts) -> Result<Line, Refusal>
 
 // a line that declares no stream and makes no call
 fn parse_other_line(alloc: Global, word: &[u8], words: Parts) -> Result<Line, Refusal>
-    ensures { Reads result (meaning_by (other_lines ++ setting_lines) (word.now ∷ words.entry)) }
+    ensures { Reads result (meaning_by (other_lines ++ (setting_lines ++ tree_lines)) (word.now ∷ words.entry)) }
 {
     if is(word, b"guest") {
         parse_guest_line(alloc, words)
+    } else if is(word, b"context") {
+        parse_context_line(alloc, words)
+    } else if is(word, b"capacity") {
+        parse_capacity_line(words).ok_or(Refusal::Invalid)
     } else if is(word, b"capture") {
         worker(words, WorkerTurn::Capture)
     } else if is(word, b"deliver") {
@@ -98,39 +106,41 @@ fn parse_other_line(alloc: Global, word: &[u8], words: Parts) -> Result<Line, Re
     }
 }
 
-// a line that says more of a guest
+// a line that says more of a context, or one on a tree
 fn parse_setting_line(alloc: Global, word: &[u8], words: Parts) -> Result<Line, Refusal>
-    ensures { Reads result (meaning_by setting_lines (word.now ∷ words.entry)) }
+    ensures { Reads result (meaning_by (setting_lines ++ tree_lines) (word.now ∷ words.entry)) }
 {
     if is(word, b"stdout") {
-        let (guest, output) = guest_and_output(alloc, words)?;
-        Ok(configure(guest, Setting::Stdout(output)))
+        let (context, output) = context_and_output(alloc, words)?;
+        Ok(configure(context, Setting::Stdout(output)))
     } else if is(word, b"stderr") {
-        let (guest, output) = guest_and_output(alloc, words)?;
-        Ok(configure(guest, Setting::Stderr(output)))
-    } else if is(word, b"capacity") {
-        let (guest, capacity) = guest_and_capacity(words).ok_or(Refusal::Invalid)?;
-        Ok(configure(guest, Setting::Capacity(capacity)))
+        let (context, output) = context_and_output(alloc, words)?;
+        Ok(configure(context, Setting::Stderr(output)))
     } else if is(word, b"env") {
         parse_env_line(alloc, words)
     } else if is(word, b"arg") {
-        let (guest, text) = guest_and_text(alloc, words)?;
-        Ok(configure(guest, Setting::Arg(text)))
+        let (context, text) = context_and_text(alloc, words)?;
+        Ok(configure(context, Setting::Arg(text)))
     } else if is(word, b"cwd") {
-        let (guest, text) = guest_and_text(alloc, words)?;
-        Ok(configure(guest, Setting::Cwd(text)))
+        let (context, text) = context_and_text(alloc, words)?;
+        Ok(configure(context, Setting::Cwd(text)))
     } else if is(word, b"random") {
         parse_random_line(alloc, words)
     } else if is(word, b"seeded") {
         parse_seeded_line(words).ok_or(Refusal::Invalid)
     } else if is(word, b"seed") {
-        let (guest, seed) = guest_and_seed(words).ok_or(Refusal::Invalid)?;
-        Ok(configure(guest, Setting::InsecureSeed(seed)))
+        let (context, seed) = context_and_seed(words).ok_or(Refusal::Invalid)?;
+        Ok(configure(context, Setting::InsecureSeed(seed)))
     } else if is(word, b"maxrandom") {
-        let (guest, size) = guest_and_number(words).ok_or(Refusal::Invalid)?;
-        Ok(configure(guest, Setting::MaxRandom(size)))
+        let (context, size) = context_and_number(words).ok_or(Refusal::Invalid)?;
+        Ok(configure(context, Setting::MaxRandom(size)))
+    } else if is(word, b"preopen") {
+        parse_preopen(alloc, words)
+    } else if is(word, b"blocking") {
+        let (context, blocking) = context_and_truth(words).ok_or(Refusal::Invalid)?;
+        Ok(configure(context, Setting::Blocking(blocking)))
     } else {
-        Err(Refusal::Invalid)
+        parse_tree_line(alloc, word, words)
     }
 }
 
@@ -146,10 +156,10 @@ fn output(name: Name, output: OutputDeclaration) -> Line
     Line::Output { name, output }
 }
 
-fn configure(guest: u32, setting: Setting) -> Line
-    ensures { result ≡ line.Configure guest setting }
+fn configure(context: Context, setting: Setting) -> Line
+    ensures { result ≡ line.Configure context setting }
 {
-    Line::Configure { guest, setting }
+    Line::Configure { context, setting }
 }
 
 fn worker(words: Parts, turn: WorkerTurn) -> Result<Line, Refusal>
@@ -256,76 +266,85 @@ fn parse_guest_line(alloc: Global, mut words: Parts) -> Result<Line, Refusal>
     Ok(Line::Guest { guest, input })
 }
 
-fn guest_and_output(alloc: Global, mut words: Parts) -> Result<(u32, Output), Refusal>
-    ensures { Reads result (two_fields guest_of output_of words.entry) }
+fn parse_context_line(alloc: Global, mut words: Parts) -> Result<Line, Refusal>
+    ensures { Reads result (context_line_of words.entry) }
 {
     let word = words.next().ok_or(Refusal::Invalid)?;
-    let guest = parse_guest(word).ok_or(Refusal::Invalid)?;
-    let output = parse_output(alloc, only(words).ok_or(Refusal::Invalid)?)?;
-    Ok((guest, output))
+    let (guest, id) = parse_named(word).ok_or(Refusal::Invalid)?;
+    let input = parse_input(alloc, only(words).ok_or(Refusal::Invalid)?)?;
+    Ok(Line::Context { guest, id, input })
 }
 
-fn guest_and_capacity(mut words: Parts) -> Option<(u32, u32)>
-    ensures { result ≡ two_fields guest_of capacity_of words.entry }
+fn parse_capacity_line(mut words: Parts) -> Option<Line>
+    ensures { result ≡ capacity_line_of words.entry }
 {
     let guest = parse_guest(words.next()?)?;
     let capacity = parse_capacity(only(words)?)?;
-    Some((guest, capacity))
+    Some(Line::Capacity { guest, capacity })
 }
 
-fn guest_and_seed(mut words: Parts) -> Option<(u32, u128)>
-    ensures { result ≡ two_fields guest_of u128_of words.entry }
-{
-    let guest = parse_guest(words.next()?)?;
-    let seed = parse_u128(only(words)?)?;
-    Some((guest, seed))
-}
-
-fn guest_and_number(mut words: Parts) -> Option<(u32, u64)>
-    ensures { result ≡ two_fields guest_of number_of words.entry }
-{
-    let guest = parse_guest(words.next()?)?;
-    let number = parse_number(only(words)?)?;
-    Some((guest, number))
-}
-
-fn guest_and_text(alloc: Global, mut words: Parts) -> Result<(u32, Text), Refusal>
-    ensures { Reads result (two_fields guest_of text_of words.entry) }
+fn context_and_output(alloc: Global, mut words: Parts) -> Result<(Context, Output), Refusal>
+    ensures { Reads result (two_fields context_of output_of words.entry) }
 {
     let word = words.next().ok_or(Refusal::Invalid)?;
-    let guest = parse_guest(word).ok_or(Refusal::Invalid)?;
-    let text = Text::read(alloc, only(words).ok_or(Refusal::Invalid)?)?;
-    Ok((guest, text))
+    let context = parse_context(word).ok_or(Refusal::Invalid)?;
+    let output = parse_output(alloc, only(words).ok_or(Refusal::Invalid)?)?;
+    Ok((context, output))
+}
+
+fn context_and_text(alloc: Global, mut words: Parts) -> Result<(Context, Text), Refusal>
+    ensures { Reads result (two_fields context_of text_of words.entry) }
+{
+    let word = words.next().ok_or(Refusal::Invalid)?;
+    let context = parse_context(word).ok_or(Refusal::Invalid)?;
+    let text = read_text(alloc, only(words).ok_or(Refusal::Invalid)?)?;
+    Ok((context, text))
+}
+
+fn context_and_seed(mut words: Parts) -> Option<(Context, u128)>
+    ensures { result ≡ two_fields context_of u128_of words.entry }
+{
+    let context = parse_context(words.next()?)?;
+    let seed = parse_u128(only(words)?)?;
+    Some((context, seed))
+}
+
+fn context_and_number(mut words: Parts) -> Option<(Context, u64)>
+    ensures { result ≡ two_fields context_of number_of words.entry }
+{
+    let context = parse_context(words.next()?)?;
+    let number = parse_number(only(words)?)?;
+    Some((context, number))
 }
 
 fn parse_env_line(alloc: Global, mut words: Parts) -> Result<Line, Refusal>
     ensures { Reads result (env_of words.entry) }
 {
     let word = words.next().ok_or(Refusal::Invalid)?;
-    let guest = parse_guest(word).ok_or(Refusal::Invalid)?;
-    let key = Text::read(alloc, words.next().ok_or(Refusal::Invalid)?)?;
-    let value = Text::read(alloc, only(words).ok_or(Refusal::Invalid)?)?;
-    Ok(configure(guest, Setting::Env { key, value }))
+    let context = parse_context(word).ok_or(Refusal::Invalid)?;
+    let key = read_text(alloc, words.next().ok_or(Refusal::Invalid)?)?;
+    let value = read_text(alloc, only(words).ok_or(Refusal::Invalid)?)?;
+    Ok(configure(context, Setting::Env { key, value }))
 }
 
 fn parse_random_line(alloc: Global, mut words: Parts) -> Result<Line, Refusal>
     ensures { Reads result (source_set byte_string_of setting.Random words.entry) }
 {
     let word = words.next().ok_or(Refusal::Invalid)?;
-    let guest = parse_guest(word).ok_or(Refusal::Invalid)?;
+    let context = parse_context(word).ok_or(Refusal::Invalid)?;
     let word = words.next().ok_or(Refusal::Invalid)?;
     let source = parse_source(word).ok_or(Refusal::Invalid)?;
     let bytes = ByteString::read(alloc, only(words).ok_or(Refusal::Invalid)?)?;
-    Ok(configure(guest, Setting::Random { source, bytes }))
+    Ok(configure(context, Setting::Random { source, bytes }))
 }
 
 fn parse_seeded_line(mut words: Parts) -> Option<Line>
     ensures { result ≡ source_set number_of setting.Seeded words.entry }
 {
-    let guest = parse_guest(words.next()?)?;
+    let context = parse_context(words.next()?)?;
     let source = parse_source(words.next()?)?;
     let seed = parse_number(only(words)?)?;
-    Some(configure(guest, Setting::Seeded { source, seed }))
+    Some(configure(context, Setting::Seeded { source, seed }))
 }
 
 fn parse_source(word: &[u8]) -> Option<RandomSource>
@@ -344,9 +363,9 @@ fn parse_call_line(alloc: Global, mut words: Parts) -> Result<Line, Refusal>
     ensures { Reads result (call_line_of words.entry) }
 {
     let word = words.next().ok_or(Refusal::Invalid)?;
-    let guest = parse_guest(word).ok_or(Refusal::Invalid)?;
+    let context = parse_context(word).ok_or(Refusal::Invalid)?;
     let call = parse_call(alloc, words)?;
-    Ok(Line::Call { guest, call })
+    Ok(Line::Call { context, call })
 }
 
 // a call that opens a standard stream, or another one
@@ -381,7 +400,7 @@ fn open(words: Parts, stream: Standard, access: Access) -> Result<Call, Refusal>
 
 // a call on the entry of a number, or another one
 fn parse_entry_call(alloc: Global, name: &[u8], words: Parts) -> Result<Call, Refusal>
-    ensures { Reads result (meaning_by (entry_calls ++ (other_calls ++ (clock_calls ++ (random_calls ++ terminal_calls)))) (name.now ∷ words.entry)) }
+    ensures { Reads result (meaning_by (entry_calls ++ (descriptor_calls ++ (path_calls ++ (pair_calls ++ (other_calls ++ (clock_calls ++ (random_calls ++ terminal_calls))))))) (name.now ∷ words.entry)) }
 {
     if is(name, b"read") {
         let (number, size) = number_and_number(words)?;
@@ -411,7 +430,7 @@ fn parse_entry_call(alloc: Global, name: &[u8], words: Parts) -> Result<Call, Re
     } else if is(name, b"block") {
         on_number(words, EntryCall::Block)
     } else {
-        parse_other_call(name, words).ok_or(Refusal::Invalid)
+        parse_descriptor_call(alloc, name, words)
     }
 }
 
@@ -451,8 +470,8 @@ fn number_and_bytes(alloc: Global, mut words: Parts) -> Result<(u64, ByteString)
     Ok((number, bytes))
 }
 
-// a call on an entry of any kind, or on none
-fn parse_other_call(name: &[u8], words: Parts) -> Option<Call>
+/// A call on an entry of any kind, or on none.
+pub fn parse_other_call(name: &[u8], words: Parts) -> Option<Call>
     ensures { result ≡ meaning_by (other_calls ++ (clock_calls ++ (random_calls ++ terminal_calls))) (name.now ∷ words.entry) }
 {
     if is(name, b"drop") {
@@ -470,6 +489,8 @@ fn parse_other_call(name: &[u8], words: Parts) -> Option<Call>
         own(words, OwnCall::Arguments)
     } else if is(name, b"initial-cwd") {
         own(words, OwnCall::InitialCwd)
+    } else if is(name, b"get-directories") {
+        own(words, OwnCall::Directories)
     } else {
         parse_clock_call(name, words)
     }

@@ -2,11 +2,13 @@ ghost use Rattle.std.specs.Prelude.{◌≡◌, ◌≤◌, ◌<◌, ◌+◌, ◌*
 ghost use Rattle.std.specs.Iterator.{YieldsFirst, item_count};
 ghost use Rattle.std.specs.Fmt.{decimal};
 ghost use Rattle.wasi_script.specs.Grammar.{parsed, Steps};
+ghost use Rattle.wasi_script.specs.Contexts.{main_context};
 ghost use Rattle.wasi_script.specs.Generated.{number_after, numbers_of, text_of_kind, texts_of, opening_steps, step_of_kind, generated_script, generated_steps, generated_input};
 ghost use Rattle.wasi_script.specs.declared.lines.Line.TheVariants as line;
 ghost use Rattle.wasi_script.specs.declared.lines.Call.TheVariants as call;
 ghost use Rattle.wasi_script.specs.declared.lines.Standard.TheVariants as standard;
 
+use crate::contexts::main_context;
 use crate::lines::{Access, Call, EntryCall, Input, Line, Standard, WorkerTurn};
 use itoa::Buffer;
 use std::alloc::Global;
@@ -135,10 +137,10 @@ fn opening_step(index: u8) -> Line
 }
 
 fn open_input(guest: u32, access: Access) -> Line
-    ensures { result ≡ line.Call guest (call.Open standard.Input access) }
+    ensures { result ≡ line.Call (main_context guest) (call.Open standard.Input access) }
 {
     Line::Call {
-        guest,
+        context: main_context(guest),
         call: Call::Open {
             stream: Standard::Input,
             access,
@@ -160,10 +162,10 @@ fn step_of_kind(kind: u16, size: u64) -> Line
 }
 
 fn on_number(guest: u32, number: u64, it: EntryCall) -> Line
-    ensures { result ≡ line.Call guest (call.On number it) }
+    ensures { result ≡ line.Call (main_context guest) (call.On number it) }
 {
     Line::Call {
-        guest,
+        context: main_context(guest),
         call: Call::On { number, call: it },
     }
 }

@@ -2,7 +2,10 @@
 #![tactic(auto)]
 
 mod bytes;
+mod contexts;
 mod declarations;
+mod descriptor_calls;
+mod descriptor_fields;
 mod forms;
 mod generated;
 mod lines;
@@ -12,23 +15,23 @@ mod numbers;
 mod parse;
 mod plan;
 mod refusal;
-mod text;
 mod times;
+mod tree_lines;
+mod trees;
 
 pub use bytes::ByteString;
 pub use declarations::Declared;
 pub use forms::Reading;
 pub use generated::{GeneratedSteps, MOST_GENERATED_LINES, gen_input, gen_script, gen_steps};
 pub use lines::{
-    Access, Call, ClockCall, ClockSetting, EntryCall, ExitStatus, Input, InputDeclaration, Line,
-    Output, OutputDeclaration, OwnCall, RandomCall, RandomSource, Setting, Standard, StreamTask,
-    WorkerTurn,
+    Access, Call, ClockCall, ClockSetting, Context, EntryCall, ExitStatus, Input, InputDeclaration,
+    Line, NewNode, Output, OutputDeclaration, OwnCall, RandomCall, RandomSource, Setting, Standard,
+    StreamTask, WorkerTurn,
 };
 pub use name::Name;
 pub use parse::{Script, ScriptError, parse_script, read_after};
 pub use plan::{ReadPlan, WritePlan};
 pub use refusal::Refusal;
-pub use text::Text;
 
 #[cfg(test)]
 mod tests;

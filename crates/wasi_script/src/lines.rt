@@ -1,8 +1,10 @@
 use crate::bytes::ByteString;
 use crate::name::Name;
 use crate::plan::{ReadPlan, WritePlan};
-use crate::text::Text;
+use wasi_base::{IoKind, Text};
 use wasi_clocks::WallTime;
+use wasi_fs_calls::{DescriptorCall, PairCall};
+use wasi_fs_types::FsPerms;
 
 /// Where a guest's standard input comes from.
 #[derive(Drop)]
@@ -74,39 +76,57 @@ pub enum OutputDeclaration {
     },
 }
 
-/// What a line says of a guest before its first call.
+/// What a line says of a context before its guest's first call.
 #[derive(Drop)]
 pub enum Setting {
-    /// `stdout G OUT`: where its standard output goes.
+    /// `stdout CTX OUT`: where its standard output goes.
     Stdout(Output),
-    /// `stderr G OUT`: where its standard error goes.
+    /// `stderr CTX OUT`: where its standard error goes.
     Stderr(Output),
-    /// `capacity G NUM`: the most entries that its table holds, from 1 to 65536.
-    Capacity(u32),
-    /// `random G secure BYTES`, `random G insecure BYTES`: a source gives these bytes, one at least,
+    /// `random CTX secure BYTES`, `random CTX insecure BYTES`: a source gives these bytes, one at least,
     /// again and again.
     Random {
         source: RandomSource,
         bytes: ByteString,
     },
-    /// `seeded G secure NUM`, `seeded G insecure NUM`: a source is the generator of this seed.
+    /// `seeded CTX secure NUM`, `seeded CTX insecure NUM`: a source is the generator of this seed.
     Seeded {
         source: RandomSource,
         seed: u64,
     },
-    /// `seed G U128`: the seed for its insecure uses.
+    /// `seed CTX U128`: the seed for its insecure uses.
     InsecureSeed(u128),
-    /// `maxrandom G NUM`: the most random bytes that it may ask for at a time.
+    /// `maxrandom CTX NUM`: the most random bytes that it may ask for at a time.
     MaxRandom(u64),
-    /// `env G TEXT TEXT`: one more variable of its environment, also where its key stands already.
+    /// `env CTX TEXT TEXT`: one more variable of its environment, also where its key stands already.
     Env {
         key: Text,
         value: Text,
     },
-    /// `arg G TEXT`: one more argument.
+    /// `arg CTX TEXT`: one more argument.
     Arg(Text),
-    /// `cwd G TEXT`: the directory in which it begins.
+    /// `cwd CTX TEXT`: the directory in which it begins.
     Cwd(Text),
+    /// `preopen CTX T TEXT ro`, `preopen CTX T TEXT rw`: it is given the root of the tree of this name,
+    /// under this path.
+    Preopen {
+        tree: Name,
+        path: Text,
+        perms: FsPerms,
+    },
+    /// `blocking CTX yes`, `blocking CTX no`: whether its file streams work at once, and not by tasks.
+    Blocking(bool),
+}
+
+/// What a line adds to a tree.
+#[derive(Drop)]
+pub enum NewNode {
+    /// `treedir`
+    Directory,
+    /// `treefile`: a file of these bytes.
+    File(ByteString),
+    /// `treelink`: a link of this text.
+    Link(Text),
 }
 
 /// Which of a guest's two random sources.
@@ -221,6 +241,8 @@ pub enum OwnCall {
     Arguments,
     /// `initial-cwd`: the directory in which it begins, where it has one.
     InitialCwd,
+    /// `get-directories`: a number for each directory that it was given.
+    Directories,
 }
 
 /// What a guest calls.
@@ -228,18 +250,39 @@ pub enum OwnCall {
 pub enum Call {
     /// `get-stdin`, `get-stdout`, `get-stderr`, and `async-stdin` and so on for the polled access: a
     /// number for one of the guest's standard streams.
-    Open { stream: Standard, access: Access },
+    Open {
+        stream: Standard,
+        access: Access,
+    },
     /// `terminal-stdin`, `terminal-stdout`, `terminal-stderr`: a number for one of the guest's
     /// standard streams, where it is a terminal.
-    Terminal { stream: Standard },
+    Terminal {
+        stream: Standard,
+    },
     /// A call on the entry of a number.
-    On { number: u64, call: EntryCall },
+    On {
+        number: u64,
+        call: EntryCall,
+    },
     /// `drop N`: the entry of a number goes out of the guest's table.
-    Drop { number: u64 },
+    Drop {
+        number: u64,
+    },
     /// A call on no entry and no stream.
     Own(OwnCall),
     /// A call on the guest's random sources.
     Random(RandomCall),
+    /// A call on the descriptor of a number.
+    Descriptor {
+        number: u64,
+        call: DescriptorCall,
+    },
+    /// A call on the descriptors of two numbers.
+    Pair {
+        number: u64,
+        to: u64,
+        call: PairCall,
+    },
 }
 
 /// What the worker does.
@@ -273,6 +316,15 @@ pub enum ClockSetting {
     WallResolution(WallTime),
 }
 
+/// One of a guest's contexts, which a script writes `G` or `G.ID`.
+#[derive(Clone, Copy, Debug, PartialEq, Eq, Drop)]
+pub struct Context {
+    /// The guest's number, from 0 to 63.
+    pub guest: u32,
+    /// The number of a named context, from 0 to 15. Without one it is the guest's main context.
+    pub named: Option<u32>,
+}
+
 /// A step of a session, by its kind.
 #[derive(Drop)]
 pub enum Line {
@@ -286,19 +338,46 @@ pub enum Line {
         name: Name,
         output: OutputDeclaration,
     },
-    /// `guest G IN`: there is a guest of this number, from 0 to 63.
+    /// `tree NAME`: there is a tree of files of this name, which has its root alone.
+    Tree {
+        name: Name,
+    },
+    /// `treedir T TEXT`, `treefile T TEXT BYTES`, `treelink T TEXT TEXT`: a tree has one more node, at
+    /// a path from its root.
+    Node {
+        tree: Name,
+        path: Text,
+        node: NewNode,
+    },
+    /// `treefail T KIND`: the next call that reads, writes or lists in a tree fails so.
+    TreeFault {
+        tree: Name,
+        kind: IoKind,
+    },
+    /// `guest G IN`: there is a guest of this number, from 0 to 63, with its main context.
     Guest {
         guest: u32,
         input: Input,
     },
-    /// A line says more of a guest.
-    Configure {
+    /// `context G.ID IN`: the guest has a named context of this number, from 0 to 15.
+    Context {
         guest: u32,
+        id: u32,
+        input: Input,
+    },
+    /// `capacity G NUM`: the most entries that the guest's table holds, from 1 to 65536.
+    Capacity {
+        guest: u32,
+        capacity: u32,
+    },
+    /// A line says more of a context.
+    Configure {
+        context: Context,
         setting: Setting,
     },
-    /// `call G ..`: the guest makes a call.
+    /// `call CTX ..`: the context's guest makes a call.
     Call {
-        guest: u32,
+        context: Context,
         call: Call,
     },
     /// The worker has its turn.

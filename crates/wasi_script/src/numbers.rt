@@ -1,5 +1,5 @@
 ghost use Rattle.std.specs.Prelude.{◌≡◌};
-ghost use Rattle.wasi_script.specs.Fields.{guest_of, capacity_of, room_of, count_of, budget_of, exit_code_of};
+ghost use Rattle.wasi_script.specs.Fields.{guest_of, context_id_of, capacity_of, room_of, count_of, budget_of, exit_code_of};
 
 use wasi_words::parse_between;
 
@@ -8,6 +8,13 @@ pub fn parse_guest(text: &[u8]) -> Option<u32>
     ensures { result ≡ guest_of text.now }
 {
     parse_between(text, 0, 63)
+}
+
+/// The number of a guest's named context, from 0 to 15.
+pub fn parse_context_id(text: &[u8]) -> Option<u32>
+    ensures { result ≡ context_id_of text.now }
+{
+    parse_between(text, 0, 15)
 }
 
 /// A table's capacity, from 1 to 65536 entries.

@@ -3,14 +3,17 @@
 ghost use Rattle.std.specs.Prelude.{◌≡◌, length, IfOk};
 
 mod calls;
+mod contexts;
+mod descriptors;
 mod environment;
 mod generated;
 mod refusals;
 mod tasks;
+mod trees;
 
 use crate::{
-    ByteString, Input, InputDeclaration, Line, Name, Output, OutputDeclaration, ReadPlan, Refusal,
-    Script, ScriptError, Setting, WritePlan, parse_script,
+    ByteString, Context, Input, InputDeclaration, Line, Name, Output, OutputDeclaration, ReadPlan,
+    Refusal, Script, ScriptError, Setting, WritePlan, parse_script,
 };
 use std::alloc::Global;
 use std::process::Abort;
@@ -302,7 +305,10 @@ fn a_guest_has_a_standard_output(rt: HostRuntime) -> Result<(), Fail> {
     let script = set_up(&rt, rt.alloc(), "stdout 7 O")?;
     match script.line(2) {
         Line::Configure {
-            guest: 7,
+            context: Context {
+                guest: 7,
+                named: None,
+            },
             setting: Setting::Stdout(Output::Named(name)),
         } => check_name(&rt, name, b"O"),
         _ => panic!(rt; "no output"),
@@ -312,7 +318,10 @@ fn a_guest_has_a_standard_output(rt: HostRuntime) -> Result<(), Fail> {
         matches!(
             script.line(2),
             Line::Configure {
-                guest: 7,
+                context: Context {
+                    guest: 7,
+                    named: None
+                },
                 setting: Setting::Stdout(Output::Empty)
             }
         )
@@ -322,7 +331,10 @@ fn a_guest_has_a_standard_output(rt: HostRuntime) -> Result<(), Fail> {
         matches!(
             script.line(2),
             Line::Configure {
-                guest: 7,
+                context: Context {
+                    guest: 7,
+                    named: None
+                },
                 setting: Setting::Stdout(Output::Sink)
             }
         )
@@ -332,7 +344,10 @@ fn a_guest_has_a_standard_output(rt: HostRuntime) -> Result<(), Fail> {
         matches!(
             script.line(2),
             Line::Configure {
-                guest: 7,
+                context: Context {
+                    guest: 7,
+                    named: None
+                },
                 setting: Setting::Stdout(Output::Closed)
             }
         )
@@ -345,7 +360,10 @@ fn a_guest_has_a_standard_error(rt: HostRuntime) -> Result<(), Fail> {
     let script = set_up(&rt, rt.alloc(), "stderr 7 O")?;
     match script.line(2) {
         Line::Configure {
-            guest: 7,
+            context: Context {
+                guest: 7,
+                named: None,
+            },
             setting: Setting::Stderr(Output::Named(name)),
         } => check_name(&rt, name, b"O"),
         _ => panic!(rt; "no output"),
@@ -355,7 +373,10 @@ fn a_guest_has_a_standard_error(rt: HostRuntime) -> Result<(), Fail> {
         matches!(
             script.line(2),
             Line::Configure {
-                guest: 7,
+                context: Context {
+                    guest: 7,
+                    named: None
+                },
                 setting: Setting::Stderr(Output::Empty)
             }
         )
@@ -365,7 +386,10 @@ fn a_guest_has_a_standard_error(rt: HostRuntime) -> Result<(), Fail> {
         matches!(
             script.line(2),
             Line::Configure {
-                guest: 7,
+                context: Context {
+                    guest: 7,
+                    named: None
+                },
                 setting: Setting::Stderr(Output::Sink)
             }
         )
@@ -375,7 +399,10 @@ fn a_guest_has_a_standard_error(rt: HostRuntime) -> Result<(), Fail> {
         matches!(
             script.line(2),
             Line::Configure {
-                guest: 7,
+                context: Context {
+                    guest: 7,
+                    named: None
+                },
                 setting: Setting::Stderr(Output::Closed)
             }
         )

@@ -1,9 +1,9 @@
--- A stream among the rows of a map by name: found, and written.
+-- A stream or a tree among the rows of a map by name: found, and written.
 use Rattle.std.proofs.Common.{◌≡◌, ℕ, Bool, true, false, cond, List, [], ◌∷◌, Some, None, Result, Ok, Err, refl, ap, sym, ◌∙◌, true≢false}
 use Rattle.std.specs.Prelude.{IfOk, OnOk, OnErr, is_some, unwrap_or, Vec}
 use Rattle.std.specs.Map.{lookup, set_value}
 use Rattle.std.specs.Str.{bytes_eq}
-use Rattle.wasi_host.specs.Host.{Named, Streams, taken_out, put_back}
+use Rattle.wasi_host.specs.Host.{Named, taken_out, put_back}
 use Rattle.wasi_script.specs.Rows.{rows_of}
 use Rattle.wasi_script.specs.laws.Rows.{rows_lookup}
 
@@ -50,8 +50,8 @@ row_none none es name absent = ap (λ o. unwrap_or o none) (rows_lookup name es 
 pub none_put : {A S : Type 0} (es : List (Vec ℕ A × S)) (name : List ℕ) (it : S) → None ≡ lookup (λ (key : Vec ℕ A). bytes_eq name key.items) es → put_back name it (rows_of es) ≡ rows_of es
 none_put es name it absent = absent_same (bytes_eq name) (rows_of es) it (rows_lookup name es ∙ sym absent)
 
--- ---- what a call on a stream under a name leaves of all streams; `whole` puts one kind of them beside the other
-module _ {E A D S : Type 0} (whole : Named S → Streams) (none : S) (result : Result D E) (es es' : List (Vec ℕ A × S)) (name : List ℕ) where
+-- ---- what a call on a stream or a tree under a name leaves of all; `whole` puts one kind of them beside the others
+module _ {E A D S W : Type 0} (whole : Named S → W) (none : S) (result : Result D E) (es es' : List (Vec ℕ A × S)) (name : List ℕ) where
   abbrev here : Vec ℕ A → Bool
   here key = bytes_eq name key.items
 

@@ -1,10 +1,8 @@
--- A setting that is a capacity is one that a table may have, and bytes that a random source gives again and again are one
--- at least.
-use Rattle.std.specs.Prelude.{◌≤◌, ◌<◌, length}
+-- Bytes that a random source gives again and again are one at least.
+use Rattle.std.specs.Prelude.{◌<◌, length}
 use Rattle.wasi_script.specs.declared.lines.Setting.{Setting}
 use Rattle.wasi_script.specs.declared.lines.Setting.TheVariants as setting
 
 abbrev pub SettingFits : Setting → Type 0
-SettingFits (setting.Capacity capacity) = (1 ≤ capacity) × (capacity ≤ 65536)
 SettingFits (setting.Random source bytes) = 0 < length bytes
 SettingFits other = Unit {0}

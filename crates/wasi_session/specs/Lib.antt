@@ -1,7 +1,11 @@
+pub mod Filed
 pub mod Fitting
 pub mod Generated
+pub mod Holding
 pub mod Live
+pub mod Contexts
 pub mod Makes
+pub mod Nodes
 pub mod Program
 pub mod Reading
 pub mod Sitting

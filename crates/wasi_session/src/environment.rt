@@ -2,10 +2,10 @@ ghost use Rattle.std.specs.Prelude.{◌≡◌, IfOk};
 ghost use Rattle.wasi_host.specs.Calls.{cwd_told, is_terminal, terminal_entry, opened_terminal};
 
 use std::alloc::Global;
-use wasi_base::OutOfMemory;
+use wasi_base::{OutOfMemory, Text};
 use wasi_cli::{TerminalInput, TerminalOutput};
 use wasi_host::{Deed, Entry, OwnEntry, Settings};
-use wasi_reply::{Text, TextPairs, Texts, Told};
+use wasi_reply::{TextPairs, Texts, Told};
 use wasi_script::{Input, Output, Standard};
 
 /// A copy of a guest's environment.
@@ -30,8 +30,8 @@ pub fn cwd_told(alloc: Global, settings: &Settings) -> Result<Told, OutOfMemory>
 {
     match &settings.initial_cwd {
         Some(cwd) => {
-            let cwd = String::from_str(alloc, cwd.as_str())?;
-            Ok(Told::Cwd(Text::new(cwd)))
+            let cwd = Text::from_str(alloc, cwd.as_str())?;
+            Ok(Told::Cwd(cwd))
         }
         None => Ok(Told::Absent),
     }

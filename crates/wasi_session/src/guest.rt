@@ -1,45 +1,47 @@
-ghost use Rattle.std.specs.Prelude.{◌≡◌, Some, IfOk, OnOk, OnErr, true, false};
+ghost use Rattle.std.specs.Prelude.{◌≡◌, ◌≤◌, Some, IfOk, OnOk, OnErr, true, false};
 ghost use Rattle.wasi_reply.specs.Reply.{ends};
 ghost use Rattle.wasi_host.specs.Calls.{opened, stream_entry, owned, exit_status};
 ghost use Rattle.wasi_host.specs.Deeds.{entry_at};
+ghost use Rattle.wasi_host.specs.Contexts.{is_named, at_context, has_context};
 ghost use Rattle.wasi_session.specs.Makes.{IsMake};
 ghost use Rattle.wasi_session.specs.Fitting.{SettingFits};
 ghost use Rattle.wasi_session.specs.StreamCalls.{stream_doing};
 ghost use Rattle.wasi_host.specs.declared.leaver.Leaver.TheVariants as leaver;
-ghost use Rattle.wasi_host.specs.Host.{leave_entry, leave_all, the_calls, new_guest, configured, left_guest, settled, answer_at, answer_to, answer_by};
+ghost use Rattle.wasi_host.specs.Host.{leave_entry, has_preopen_in, the_calls, new_guest, with_context, with_capacity, configured, left_guest, settled, answer_at, answer_to, answer_by};
 
 use crate::clocks::{awaited, clocked};
+use crate::contexts::Contexts;
+use crate::descriptors::directories;
 use crate::environment::{arguments_told, cwd_told, environment_told, opened_terminal};
 use crate::own::Own;
-use crate::random::drawn;
 use crate::shared;
 use crate::streams::Streams;
 use std::alloc::Global;
 use std::marker::Model;
 use wasi_base::{OutOfMemory, TrapText};
-use wasi_cli::{ArgList, CwdText, EnvList, Owner, StdioHandle, StdoutHandle};
-use wasi_host::{Clocks, Deed, Entry, Leaver, Settings, SharedEntry, Sources, StreamEntry};
-use wasi_random::DEFAULT_MAX_SIZE;
+use wasi_cli::{Owner, StdioHandle, StdoutHandle};
+use wasi_host::{Clocks, Deed, Entry, Leaver, SharedEntry, StreamEntry};
 use wasi_reply::{Reply, Told};
-use wasi_script::{Access, Call, EntryCall, ExitStatus, Input, Output, OwnCall, Setting, Standard};
+use wasi_script::{
+    Access, Call, Context, EntryCall, ExitStatus, Input, OwnCall, Setting, Standard,
+};
 use wasi_stdin::{StdinCore, Wait};
 
 /// How many entries a guest may have unless a line says otherwise.
 const CAPACITY: u32 = 1024;
 
-/// A guest: what configuration lines say of it, what it owns, its random sources, and whether it
-/// was called and whether it ended.
+/// A guest: its contexts, what it owns, and whether it was called and whether it ended.
 #[derive(Drop)]
 pub struct Guest {
-    settings: Settings,
-    own: Own,
-    sources: Sources,
+    pub(crate) contexts: Contexts,
+    pub(crate) own: Own,
     was_called: bool,
     ended: bool,
 }
 
 impl Model for Guest {
     ghost use Rattle.wasi_host.specs.contracts.settings.Settings.{the_row as settings_row};
+    ghost use Rattle.wasi_session.specs.contracts.contexts.Contexts.{the_row as contexts_row};
     ghost use Rattle.wasi_session.specs.contracts.own.Own.{the_row as own_row};
     ghost use Rattle.wasi_host.specs.contracts.random.Sources.{the_row as sources_row};
     ghost use Rattle.wasi_host.specs.Host.{Guest};
@@ -49,7 +51,7 @@ impl Model for Guest {
 
     ghost coded = { guest_code settings_row.coded own_row.coded sources_row.coded };
 
-    ghost view = { λ g. record { settings = g.settings; own = g.own; sources = g.sources; was_called = g.was_called; ended = g.ended } };
+    ghost view = { λ g. record { settings = g.contexts.settings; own = g.own; sources = g.contexts.sources; was_called = g.was_called; ended = g.ended } };
 }
 
 impl Guest {
@@ -57,18 +59,8 @@ impl Guest {
         ensures { result ≡ new_guest input }
     {
         Guest {
-            settings: Settings {
-                input,
-                stdout: Output::Empty,
-                stderr: Output::Empty,
-                environment: EnvList::new(Vec::new(alloc)),
-                arguments: ArgList::new(Vec::new(alloc)),
-                initial_cwd: None,
-                insecure_seed: 0,
-                most_random: DEFAULT_MAX_SIZE,
-            },
+            contexts: Contexts::new(alloc, input),
             own: Own::new(alloc, CAPACITY),
-            sources: Sources::new(),
             was_called: false,
             ended: false,
         }
@@ -81,58 +73,82 @@ impl Guest {
         self.was_called
     }
 
-    /// Takes over what a line says of the guest. Out of memory leaves it as it was.
-    pub fn configure(&mut self, alloc: Global, setting: &Setting) -> Result<(), OutOfMemory>
-        requires { SettingFits setting.now }
-        ensures ok { OnOk result (self.new ≡ configured setting.now self.old) }
-        ensures err { OnErr result (self.new ≡ self.old) }
+    /// Whether the guest has a named context of this number.
+    pub fn has_context(&self, id: u32) -> bool
+        ensures { result ≡ is_named id self.now.settings }
     {
-        match setting {
-            Setting::Stdout(output) => self.settings.stdout = copy_output(alloc, output)?,
-            Setting::Stderr(output) => self.settings.stderr = copy_output(alloc, output)?,
-            Setting::Capacity(capacity) => self.own.resize(alloc, *capacity),
-            Setting::Random { source, bytes } => {
-                let bytes = bytes.to_vec(alloc)?;
-                self.sources.repeat(*source, bytes);
-            }
-            Setting::Seeded { source, seed } => self.sources.seed(*source, *seed),
-            Setting::InsecureSeed(seed) => self.settings.insecure_seed = *seed,
-            Setting::MaxRandom(size) => self.settings.most_random = *size,
-            Setting::Env { key, value } => {
-                self.settings
-                    .environment
-                    .push(alloc, key.as_str(), value.as_str())?;
-            }
-            Setting::Arg(text) => self.settings.arguments.push(alloc, text.as_str())?,
-            Setting::Cwd(text) => {
-                let cwd = CwdText::from_str(alloc, text.as_str())?;
-                self.settings.initial_cwd = Some(cwd);
-            }
-        }
-        Ok(())
+        self.contexts.has(id)
     }
 
-    /// A call, whose guest has this number: the reply to it, and what follows of that.
+    /// Whether lines gave one of its contexts a directory.
+    pub fn was_given(&self, context: Option<u32>) -> bool
+        ensures { result ≡ has_preopen_in context (Some self.now) }
+    {
+        self.has_context_of(context) && !self.contexts.settings(context).preopens.as_slice().is_empty()
+    }
+
+    fn has_context_of(&self, context: Option<u32>) -> bool
+        ensures { result ≡ has_context context self.now.settings }
+    {
+        match context {
+            None => true,
+            Some(id) => self.has_context(id),
+        }
+    }
+
+    /// A named context of a new number.
+    pub fn add_context(&mut self, alloc: Global, id: u32, input: Input) -> Result<(), OutOfMemory>
+        requires { is_named id self.old.settings ≡ false }
+        ensures ok { OnOk result (self.new ≡ with_context id input self.old) }
+        ensures err { OnErr result (self.new ≡ self.old) }
+    {
+        self.contexts.add(alloc, id, input)
+    }
+
+    /// Room for this many entries, and none of them.
+    pub fn resize(&mut self, alloc: Global, capacity: u32)
+        requires low { 1 ≤ capacity }
+        requires high { capacity ≤ 65536 }
+        ensures { self.new ≡ with_capacity capacity self.old }
+    {
+        self.own.resize(alloc, capacity);
+    }
+
+    /// Takes over what a line says of a context. Out of memory leaves all as it was.
+    pub fn configure(
+        &mut self,
+        alloc: Global,
+        context: Option<u32>,
+        setting: &Setting,
+    ) -> Result<(), OutOfMemory>
+        requires { SettingFits setting.now }
+        ensures ok { OnOk result (self.new ≡ configured setting.now context self.old) }
+        ensures err { OnErr result (self.new ≡ self.old) }
+    {
+        self.contexts.configure(alloc, context, setting)
+    }
+
+    /// A call through a context: the reply to it, and what follows of that.
     pub fn call(
         &mut self,
         alloc: Global,
-        guest: u32,
+        caller: Context,
         call: &Call,
         clocks: &Clocks,
         core: &mut StdinCore,
         streams: &mut Streams,
     ) -> Result<Reply, OutOfMemory>
-        ensures done { IfOk result (λ reply. record { reply = reply; guest = self.new; shared = core.new; streams = streams.new } ≡ answer_by self.old.ended (the_calls clocks.now) call.now guest self.old core.old streams.old) }
+        ensures done { IfOk result (λ reply. record { reply = reply; guest = self.new; shared = core.new; streams = streams.new } ≡ answer_by self.old.ended (the_calls clocks.now) call.now caller.guest caller.named self.old core.old streams.old) }
         ensures err { OnErr result ((self.new ≡ self.old) × (core.new ≡ core.old) × (streams.new ≡ streams.old)) }
     {
         if self.ended {
             self.was_called = true;
             return Ok(Reply::Ended);
         }
-        let reply = self.answer(alloc, guest, call, clocks, core, streams)?;
+        let reply = self.answer(alloc, caller, call, clocks, core, streams)?;
         self.settle(&reply);
         if self.ended {
-            self.leave(guest, streams);
+            self.contexts.leave(Leaver::Guest(caller.guest), streams);
         }
         Ok(reply)
     }
@@ -148,17 +164,7 @@ impl Guest {
         }
     }
 
-    // the guest ended: its turns on its streams pass on
-    fn leave(&self, guest: u32, streams: &mut Streams)
-        ensures { streams.new ≡ leave_all (leaver.Guest guest) self.now.settings streams.old }
-    {
-        let who = Leaver::Guest(guest);
-        streams.leave_input(&self.settings.input, who);
-        streams.leave_output(&self.settings.stdout, who);
-        streams.leave_output(&self.settings.stderr, who);
-    }
-
-    // .. and so do those of an entry that goes
+    // the turns of an entry that goes pass on
     fn leave_entry(&self, guest: u32, number: u64, streams: &mut Streams)
         ensures { streams.new ≡ leave_entry (leaver.Entry (record { guest = guest; number = number })) (entry_at self.now.own number) self.now.settings streams.old }
     {
@@ -167,12 +173,21 @@ impl Guest {
         };
         let who = Leaver::Entry(Owner { guest, number });
         match self.own.entry(number) {
-            Some(Entry::Stream { stream, entry: _ }) => match stream {
-                Standard::Input => streams.leave_input(&self.settings.input, who),
-                Standard::Output => streams.leave_output(&self.settings.stdout, who),
-                Standard::Error => streams.leave_output(&self.settings.stderr, who),
-            },
-            Some(Entry::Shared(_) | Entry::Own(_)) | None => {}
+            Some(
+                Entry::Stream {
+                    context,
+                    stream,
+                    entry: _,
+                },
+            ) => {
+                let settings = self.contexts.settings(*context);
+                match stream {
+                    Standard::Input => streams.leave_input(&settings.input, who),
+                    Standard::Output => streams.leave_output(&settings.stdout, who),
+                    Standard::Error => streams.leave_output(&settings.stderr, who),
+                }
+            }
+            Some(Entry::Shared(_) | Entry::Own(_) | Entry::Descriptor { .. }) | None => {}
         }
     }
 
@@ -180,45 +195,50 @@ impl Guest {
     fn answer(
         &mut self,
         alloc: Global,
-        guest: u32,
+        caller: Context,
         call: &Call,
         clocks: &Clocks,
         core: &mut StdinCore,
         streams: &mut Streams,
     ) -> Result<Reply, OutOfMemory>
-        ensures done { IfOk result (λ reply. settled (record self.old { sources = self.new.sources }) (record { reply = reply; own = self.new.own }) core.new streams.new ≡ answer_to (the_calls clocks.now) call.now guest self.old core.old streams.old) }
+        ensures done { IfOk result (λ reply. settled (record self.old { sources = self.new.sources }) (record { reply = reply; own = self.new.own }) core.new streams.new ≡ answer_to (the_calls clocks.now) call.now caller.guest caller.named self.old core.old streams.old) }
         ensures rest { self.new ≡ record self.old { own = self.new.own; sources = self.new.sources } }
         ensures err { OnErr result ((self.new ≡ self.old) × (core.new ≡ core.old) × (streams.new ≡ streams.old)) }
     {
         match call {
             Call::Open { stream, access } => {
-                let entry = opened(&self.settings.input, *stream, *access);
-                self.own.act(Deed::Make {
+                let settings = self.contexts.settings(caller.named);
+                let entry = opened(&settings.input, caller.named, *stream, *access);
+                let deed = Deed::Make {
                     entry,
                     parent: None,
-                })
+                };
+                self.own.act(alloc, deed)
             }
             Call::Terminal { stream } => {
-                let deed = opened_terminal(&self.settings, *stream);
-                self.own.act_apart(deed)
+                let deed = opened_terminal(self.contexts.settings(caller.named), *stream);
+                self.own.act_apart(alloc, deed)
             }
             Call::On { number, call } => {
-                self.answer_at(alloc, call, guest, *number, clocks, core, streams)
+                self.answer_at(alloc, call, caller.guest, *number, clocks, core, streams)
             }
             Call::Drop { number } => {
-                self.leave_entry(guest, *number, streams);
+                self.leave_entry(caller.guest, *number, streams);
                 Ok(self.own.drop(*number))
             }
             Call::Own(call) => {
-                let deed = self.owned(alloc, call, clocks)?;
-                self.own.act_apart(deed)
+                let deed = self.owned(alloc, call, caller.named, clocks)?;
+                self.own.act_apart(alloc, deed)
             }
-            Call::Random(call) => {
-                match drawn(alloc, *call, &self.settings, &mut self.sources) {
-                    Ok(told) => Ok(Reply::Told(told)),
-                    Err(error) => Err(error),
-                }
+            Call::Descriptor { number, call } => {
+                let blocking = self.contexts.settings(caller.named).blocking;
+                self.call_descriptor(alloc, call, *number, blocking, clocks, streams)
             }
+            Call::Pair { number, to, call } => self.call_pair(alloc, call, *number, *to, streams),
+            Call::Random(call) => match self.contexts.draw(alloc, caller.named, *call) {
+                Ok(told) => Ok(Reply::Told(told)),
+                Err(error) => Err(error),
+            },
         }
     }
 
@@ -246,80 +266,83 @@ impl Guest {
             Some(Entry::Shared(entry)) => {
                 let entry = *entry;
                 let deed = shared::asked(alloc, core, call, at, entry)?;
-                self.own.act(deed)
+                self.own.act(alloc, deed)
             }
-            Some(Entry::Stream { stream, entry }) => {
-                let (stream, entry) = (*stream, *entry);
-                let deed = self.on_stream(alloc, call, at, stream, entry, streams)?;
-                self.own.act_apart(deed)
+            Some(
+                Entry::Stream {
+                    context,
+                    stream,
+                    entry,
+                },
+            ) => {
+                let (context, stream, entry) = (*context, *stream, *entry);
+                let deed = self.on_stream(alloc, call, at, context, stream, entry, streams)?;
+                self.own.act_apart(alloc, deed)
+            }
+            Some(Entry::Descriptor { .. }) => {
+                Ok(Reply::Told(Told::Trap(TrapText::ResourceWrongType)))
             }
             Some(Entry::Own(entry)) => {
                 let deed = awaited(clocks, call, at, *entry);
-                self.own.act_apart(deed)
+                self.own.act_apart(alloc, deed)
             }
         }
     }
 
-    // on the stream that a standard stream of the guest is
+    // on the stream that a standard stream of a context is
     fn on_stream(
         &self,
         alloc: Global,
         call: &EntryCall,
         at: Owner,
+        context: Option<u32>,
         stream: Standard,
         entry: StreamEntry,
         streams: &mut Streams,
     ) -> Result<Deed, OutOfMemory>
-        ensures deed { IfOk result (λ deed. deed ≡ (stream_doing call.now at stream entry self.now.settings streams.old).deed) }
-        ensures left { OnOk result (streams.new ≡ (stream_doing call.now at stream entry self.now.settings streams.old).left) }
+        ensures deed { IfOk result (λ deed. deed ≡ (stream_doing call.now at context stream entry (at_context context self.now.settings) streams.old).deed) }
+        ensures left { OnOk result (streams.new ≡ (stream_doing call.now at context stream entry (at_context context self.now.settings) streams.old).left) }
         ensures made { IfOk result (λ deed. IsMake deed → streams.new ≡ streams.old) }
         ensures err { OnErr result (streams.new ≡ streams.old) }
     {
+        let settings = self.contexts.settings(context);
         match stream {
-            Standard::Input => streams.call(alloc, &self.settings.input, call, at, entry),
+            Standard::Input => streams.call(alloc, &settings.input, call, context, at, entry),
             Standard::Output => {
-                streams.send(alloc, &self.settings.stdout, call, stream, at, entry)
+                streams.send(alloc, &settings.stdout, call, context, stream, at, entry)
             }
-            Standard::Error => streams.send(alloc, &self.settings.stderr, call, stream, at, entry),
+            Standard::Error => {
+                streams.send(alloc, &settings.stderr, call, context, stream, at, entry)
+            }
         }
     }
 
     // a call on no entry and no stream
-    fn owned(&self, alloc: Global, call: &OwnCall, clocks: &Clocks) -> Result<Deed, OutOfMemory>
-        ensures { IfOk result (λ deed. deed ≡ owned clocks.now call.now self.now.settings self.now.own) }
+    fn owned(
+        &self,
+        alloc: Global,
+        call: &OwnCall,
+        context: Option<u32>,
+        clocks: &Clocks,
+    ) -> Result<Deed, OutOfMemory>
+        ensures { IfOk result (λ deed. deed ≡ owned clocks.now call.now (at_context context self.now.settings) self.now.own) }
     {
+        let settings = self.contexts.settings(context);
         match call {
             OwnCall::Exit { status } => Ok(Deed::Tell(Told::Exit(exit_status(*status)))),
             OwnCall::ExitCode { code } => Ok(Deed::Tell(Told::Exit(*code))),
             OwnCall::Clock(call) => Ok(clocked(clocks, *call)),
-            OwnCall::Environment => Ok(Deed::Tell(environment_told(alloc, &self.settings)?)),
-            OwnCall::Arguments => Ok(Deed::Tell(arguments_told(alloc, &self.settings)?)),
-            OwnCall::InitialCwd => Ok(Deed::Tell(cwd_told(alloc, &self.settings)?)),
-        }
-    }
-}
-
-fn copy_output(alloc: Global, output: &Output) -> Result<Output, OutOfMemory>
-    ensures { IfOk result (λ copy. copy ≡ output.now) }
-{
-    match output {
-        Output::Empty => Ok(Output::Empty),
-        Output::Sink => Ok(Output::Sink),
-        Output::Closed => Ok(Output::Closed),
-        Output::Named(name) => {
-            let name = name.copy(alloc)?;
-            Ok(Output::Named(name))
-        }
-        Output::Terminal(name) => {
-            let name = name.copy(alloc)?;
-            Ok(Output::Terminal(name))
+            OwnCall::Environment => Ok(Deed::Tell(environment_told(alloc, settings)?)),
+            OwnCall::Arguments => Ok(Deed::Tell(arguments_told(alloc, settings)?)),
+            OwnCall::InitialCwd => Ok(Deed::Tell(cwd_told(alloc, settings)?)),
+            OwnCall::Directories => directories(alloc, context, settings),
         }
     }
 }
 
 // the entry of a standard stream that a guest opens
-fn opened(input: &Input, stream: Standard, access: Access) -> Entry
-    ensures { result ≡ opened input.now stream access }
+fn opened(input: &Input, context: Option<u32>, stream: Standard, access: Access) -> Entry
+    ensures { result ≡ opened input.now context stream access }
 {
     match (input, stream) {
         (Input::Shared | Input::Terminal, Standard::Input) => match access {
@@ -327,6 +350,7 @@ fn opened(input: &Input, stream: Standard, access: Access) -> Entry
             Access::Polled => Entry::Shared(SharedEntry::Polled(Wait::new())),
         },
         _ => Entry::Stream {
+            context,
             stream,
             entry: stream_entry(access),
         },

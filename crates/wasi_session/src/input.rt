@@ -21,11 +21,12 @@ pub fn called(
     alloc: Global,
     stream: &mut InStream,
     call: &EntryCall,
+    context: Option<u32>,
     at: Owner,
     entry: StreamEntry,
 ) -> Result<Deed, OutOfMemory>
-    ensures deed { IfOk result (λ deed. deed ≡ (called call.now at entry stream.old).deed) }
-    ensures left { OnOk result (stream.new ≡ (called call.now at entry stream.old).left) }
+    ensures deed { IfOk result (λ deed. deed ≡ (called call.now context at entry stream.old).deed) }
+    ensures left { OnOk result (stream.new ≡ (called call.now context at entry stream.old).left) }
     ensures made { IfOk result (λ deed. IsMake deed → stream.new ≡ stream.old) }
     ensures err { OnErr result (stream.new ≡ stream.old) }
 {
@@ -36,13 +37,14 @@ pub fn called(
         (EntryCall::Skip { size }, StreamEntry::Plain) => Ok(Deed::Tell(skip(stream, *size))),
         (EntryCall::Subscribe, StreamEntry::Plain) => Ok(Deed::Make {
             entry: Entry::Stream {
+                context,
                 stream: Standard::Input,
                 entry: StreamEntry::Pollable,
             },
             parent: Some(u64::from(at.number)),
         }),
         (EntryCall::PollRead { room }, StreamEntry::Polled(handle)) => {
-            polled_read(alloc, stream, at, handle, *room)
+            polled_read(alloc, stream, context, at, handle, *room)
         }
         (EntryCall::Ready, StreamEntry::Pollable) => {
             Ok(Deed::Tell(Told::Truth(is_ready(stream))))
@@ -58,13 +60,14 @@ pub fn called(
 pub fn called_closed(
     alloc: Global,
     call: &EntryCall,
+    context: Option<u32>,
     at: Owner,
     entry: StreamEntry,
 ) -> Result<Deed, OutOfMemory>
-    ensures { IfOk result (λ deed. deed ≡ (called call.now at entry InStream.Closed).deed) }
+    ensures { IfOk result (λ deed. deed ≡ (called call.now context at entry InStream.Closed).deed) }
 {
     let mut closed = InStream::Closed;
-    called(alloc, &mut closed, call, at, entry)
+    called(alloc, &mut closed, call, context, at, entry)
 }
 
 fn read(alloc: Global, stream: &mut InStream, size: u64) -> Result<Told, OutOfMemory>
@@ -104,17 +107,18 @@ fn skip(stream: &mut InStream, size: u64) -> Told
 fn polled_read(
     alloc: Global,
     stream: &mut InStream,
+    context: Option<u32>,
     at: Owner,
     handle: StdoutHandle,
     room: u64,
 ) -> Result<Deed, OutOfMemory>
-    ensures deed { IfOk result (λ deed. deed ≡ (polled_read at handle stream.old room).deed) }
-    ensures left { OnOk result (stream.new ≡ (polled_read at handle stream.old room).left) }
+    ensures deed { IfOk result (λ deed. deed ≡ (polled_read context at handle stream.old room).deed) }
+    ensures left { OnOk result (stream.new ≡ (polled_read context at handle stream.old room).left) }
     ensures made { IfOk result (λ deed. IsMake deed → stream.new ≡ stream.old) }
     ensures err { OnErr result (stream.new ≡ stream.old) }
 {
     match stream {
-        InStream::Async(input) => polled_shared_read(alloc, input, at, handle, room),
+        InStream::Async(input) => polled_shared_read(alloc, input, context, at, handle, room),
         InStream::Closed | InStream::Pipe(_) | InStream::File(_) => {
             Ok(Deed::Tell(poll_read(alloc, stream, room)?))
         }
@@ -124,12 +128,13 @@ fn polled_read(
 fn polled_shared_read(
     alloc: Global,
     input: &mut AsyncInput,
+    context: Option<u32>,
     at: Owner,
     handle: StdoutHandle,
     room: u64,
 ) -> Result<Deed, OutOfMemory>
-    ensures deed { IfOk result (λ deed. deed ≡ (polled_read at handle (in_stream.Async input.old) room).deed) }
-    ensures left { IfOk result (λ deed. in_stream.Async input.new ≡ (polled_read at handle (in_stream.Async input.old) room).left) }
+    ensures deed { IfOk result (λ deed. deed ≡ (polled_read context at handle (in_stream.Async input.old) room).deed) }
+    ensures left { IfOk result (λ deed. in_stream.Async input.new ≡ (polled_read context at handle (in_stream.Async input.old) room).left) }
     ensures made { IfOk result (λ deed. IsMake deed → ⊥) }
     ensures err { OnErr result (input.new ≡ input.old) }
 {
@@ -142,6 +147,7 @@ fn polled_shared_read(
     Ok(Deed::Change {
         number: u64::from(at.number),
         entry: Entry::Stream {
+            context,
             stream: Standard::Input,
             entry: StreamEntry::Polled(handle),
         },

@@ -3,7 +3,10 @@
 
 mod answers;
 mod clocks;
+mod contexts;
+mod descriptors;
 mod environment;
+mod filing;
 mod generated;
 mod guest;
 mod input;
@@ -19,6 +22,7 @@ mod shared;
 mod streams;
 #[cfg(test)]
 mod tests;
+mod trees;
 mod world;
 
 pub use laws::lines_are_taken_in_their_place;

@@ -21,12 +21,13 @@ pub fn sent(
     alloc: Global,
     stream: &mut OutStream,
     call: &EntryCall,
+    context: Option<u32>,
     to: Standard,
     at: Owner,
     entry: StreamEntry,
 ) -> Result<Deed, OutOfMemory>
-    ensures deed { IfOk result (λ deed. deed ≡ (sent call.now to at entry stream.old).deed) }
-    ensures left { OnOk result (stream.new ≡ (sent call.now to at entry stream.old).left) }
+    ensures deed { IfOk result (λ deed. deed ≡ (sent call.now context to at entry stream.old).deed) }
+    ensures left { OnOk result (stream.new ≡ (sent call.now context to at entry stream.old).left) }
     ensures made { IfOk result (λ deed. IsMake deed → stream.new ≡ stream.old) }
     ensures err { OnErr result (stream.new ≡ stream.old) }
 {
@@ -39,6 +40,7 @@ pub fn sent(
         (EntryCall::Flush, StreamEntry::Plain) => Ok(Deed::Tell(flush(stream))),
         (EntryCall::Subscribe, StreamEntry::Plain) => Ok(Deed::Make {
             entry: Entry::Stream {
+                context,
                 stream: to,
                 entry: StreamEntry::Pollable,
             },
@@ -46,10 +48,10 @@ pub fn sent(
         }),
         (EntryCall::PollWrite { bytes }, StreamEntry::Polled(handle)) => {
             let bytes = shared_bytes(alloc, bytes)?;
-            polled_write(alloc, stream, to, at, handle, bytes.as_slice())
+            polled_write(alloc, stream, context, to, at, handle, bytes.as_slice())
         }
         (EntryCall::PollFlush, StreamEntry::Polled(handle)) => {
-            polled_flush(stream, to, at, handle)
+            polled_flush(stream, context, to, at, handle)
         }
         (EntryCall::Ready, StreamEntry::Pollable) => {
             Ok(Deed::Tell(Told::Truth(is_ready(stream))))
@@ -65,14 +67,15 @@ pub fn sent(
 pub fn sent_closed(
     alloc: Global,
     call: &EntryCall,
+    context: Option<u32>,
     to: Standard,
     at: Owner,
     entry: StreamEntry,
 ) -> Result<Deed, OutOfMemory>
-    ensures { IfOk result (λ deed. deed ≡ (sent call.now to at entry OutStream.Closed).deed) }
+    ensures { IfOk result (λ deed. deed ≡ (sent call.now context to at entry OutStream.Closed).deed) }
 {
     let mut closed = OutStream::Closed;
-    sent(alloc, &mut closed, call, to, at, entry)
+    sent(alloc, &mut closed, call, context, to, at, entry)
 }
 
 fn check_write(stream: &mut OutStream) -> Told
@@ -124,13 +127,14 @@ fn flush(stream: &mut OutStream) -> Told
 fn polled_write(
     alloc: Global,
     stream: &mut OutStream,
+    context: Option<u32>,
     to: Standard,
     at: Owner,
     handle: StdoutHandle,
     piece: &[u8],
 ) -> Result<Deed, OutOfMemory>
-    ensures deed { IfOk result (λ deed. deed ≡ (polled_write to at handle stream.old piece.now).deed) }
-    ensures left { OnOk result (stream.new ≡ (polled_write to at handle stream.old piece.now).left) }
+    ensures deed { IfOk result (λ deed. deed ≡ (polled_write context to at handle stream.old piece.now).deed) }
+    ensures left { OnOk result (stream.new ≡ (polled_write context to at handle stream.old piece.now).left) }
     ensures made { IfOk result (λ deed. IsMake deed → stream.new ≡ stream.old) }
     ensures err { OnErr result (stream.new ≡ stream.old) }
 {
@@ -138,7 +142,7 @@ fn polled_write(
         OutStream::Buffered(output) => {
             let mut handle = handle;
             let answer = output.poll_write(alloc, at, &mut handle, piece)?;
-            Ok(kept(to, at, handle, told_polled_count(answer)))
+            Ok(kept(context, to, at, handle, told_polled_count(answer)))
         }
         OutStream::Closed
         | OutStream::Sink
@@ -150,12 +154,13 @@ fn polled_write(
 
 fn polled_flush(
     stream: &mut OutStream,
+    context: Option<u32>,
     to: Standard,
     at: Owner,
     handle: StdoutHandle,
 ) -> Result<Deed, OutOfMemory>
-    ensures deed { IfOk result (λ deed. deed ≡ (polled_flush to at handle stream.old).deed) }
-    ensures left { OnOk result (stream.new ≡ (polled_flush to at handle stream.old).left) }
+    ensures deed { IfOk result (λ deed. deed ≡ (polled_flush context to at handle stream.old).deed) }
+    ensures left { OnOk result (stream.new ≡ (polled_flush context to at handle stream.old).left) }
     ensures made { IfOk result (λ deed. IsMake deed → stream.new ≡ stream.old) }
     ensures err { OnErr result (stream.new ≡ stream.old) }
 {
@@ -163,7 +168,7 @@ fn polled_flush(
         OutStream::Buffered(output) => {
             let mut handle = handle;
             let answer = output.poll_flush(at, &mut handle)?;
-            Ok(kept(to, at, handle, told_polled_done(answer)))
+            Ok(kept(context, to, at, handle, told_polled_done(answer)))
         }
         OutStream::Closed
         | OutStream::Sink
@@ -174,12 +179,13 @@ fn polled_flush(
 }
 
 // the entry keeps the handle that the poll leaves
-fn kept(to: Standard, at: Owner, handle: StdoutHandle, told: Told) -> Deed
-    ensures { result ≡ Deed.Change at.number (Entry.Stream to (StreamEntry.Polled handle)) told }
+fn kept(context: Option<u32>, to: Standard, at: Owner, handle: StdoutHandle, told: Told) -> Deed
+    ensures { result ≡ Deed.Change at.number (Entry.Stream context to (StreamEntry.Polled handle)) told }
 {
     Deed::Change {
         number: u64::from(at.number),
         entry: Entry::Stream {
+            context,
             stream: to,
             entry: StreamEntry::Polled(handle),
         },

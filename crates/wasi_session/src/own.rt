@@ -1,15 +1,25 @@
-ghost use Rattle.std.specs.Prelude.{◌≡◌, ◌≤◌, IfOk, OnErr, None, Some, MatchOption, Option, ℕ, true, false};
+ghost use Rattle.std.specs.Prelude.{◌≡◌, ◌≤◌, nat_eq, length, IfOk, OnOk, OnErr, None, Some, MatchOption, Option, ℕ, true, false};
 ghost use Rattle.std.specs.Option.{option_copied};
-ghost use Rattle.wasi_table.specs.Table.{new_table, is_live};
-ghost use Rattle.wasi_host.specs.Deeds.{Own, act, apart, made, goes_under, may_change, with_kept, entry_at, dropped};
+ghost use Rattle.wasi_table.specs.Table.{new_table, is_live, live_count, has_room};
+ghost use Rattle.wasi_host.specs.Deeds.{Own, act, apart, made, goes_under, may_change, with_kept, entry_at, dropped, handles_made, with_each};
+ghost use Rattle.wasi_session.specs.Filed.{descriptor_in};
+ghost use Rattle.wasi_session.specs.Holding.{IsHeld, let_go, all_let_go};
 ghost use Rattle.wasi_session.specs.Makes.{IsMake};
 
+use crate::descriptors::OpenDescriptor;
 use std::alloc::Global;
 use std::marker::Model;
-use wasi_base::{OutOfMemory, TrapText};
+use wasi_base::{OutOfMemory, Text, TrapText};
 use wasi_host::{Deed, Entry, SharedEntry};
-use wasi_reply::{Reply, Told};
+use wasi_reply::{Directories, Reply, Told};
 use wasi_table::{ResourceTable, TableError};
+
+/// A number that an entry was put under for now, and whether it was never given before.
+#[derive(Clone, Copy, Drop)]
+pub struct Place {
+    number: u32,
+    fresh: bool,
+}
 
 /// What a guest owns: its entries by their numbers, and how many it may have.
 #[derive(Drop)]
@@ -79,10 +89,80 @@ impl Own {
         self.table.get(number, kind).ok()
     }
 
+    /// The descriptor at a number, or why a call on it traps.
+    pub fn descriptor(&self, number: u64) -> Result<OpenDescriptor, TrapText>
+        ensures { result ≡ descriptor_in (entry_at self.now number) }
+    {
+        let Some(narrow) = self.place(number) else {
+            return Err(TrapText::ResourceNotPresent);
+        };
+        match self.entry(narrow) {
+            None => Err(TrapText::ResourceNotPresent),
+            Some(
+                Entry::Descriptor {
+                    context,
+                    preopen,
+                    descriptor,
+                },
+            ) => Ok(OpenDescriptor {
+                context: *context,
+                preopen: *preopen,
+                descriptor: *descriptor,
+            }),
+            Some(Entry::Shared(_) | Entry::Stream { .. } | Entry::Own(_)) => {
+                Err(TrapText::ResourceWrongType)
+            }
+        }
+    }
+
+    /// Whether there is no room for another entry.
+    pub fn is_full(&self) -> bool
+        ensures is { result ≡ nat_eq (live_count self.now.table) self.now.table.capacity }
+        ensures room { result ≡ false → has_room self.now.table 1 ≡ true }
+    {
+        let _live = self.table.len();
+        !self.table.has_room(1)
+    }
+
+    /// Puts an entry without a parent in, which may be taken out again as if it had not been. There is
+    /// room for it.
+    pub fn hold(&mut self, entry: Entry) -> Result<Place, OutOfMemory>
+        requires { has_room self.old.table 1 ≡ true }
+        ensures held { IfOk result (λ place. IsHeld self.old entry place self.new) }
+        ensures err { OnErr result (self.new ≡ self.old) }
+    {
+        // The checker is told of the type within by its name.
+        let _shared = matches!(entry, Entry::Shared(SharedEntry::Reader));
+        let _live = self.table.len();
+        let fresh = !self.table.has_freed();
+        match self.table.push(entry) {
+            Ok(number) => Ok(Place { number, fresh }),
+            Err(TableError::OutOfMemory) => Err(OutOfMemory),
+            Err(_) => unreachable!(),
+        }
+    }
+
+    /// Takes the entry that was put in last out again.
+    pub fn let_go(&mut self, place: Place)
+        ensures { self.new ≡ record { table = let_go place self.old.table } }
+    {
+        self.table.take_back(place.number, place.fresh);
+    }
+
+    /// Puts another one in its place, which stays.
+    pub fn fill(&mut self, place: Place, entry: Entry) -> Reply
+        requires { is_live self.old.table place.number ≡ true }
+        ensures reply { result ≡ Reply.Handle place.number }
+        ensures after { self.new ≡ with_kept self.old place.number entry }
+    {
+        self.put(place.number, entry);
+        Reply::Handle(place.number)
+    }
+
     /// Does what a rule answers, and tells what is to be told. Out of memory does nothing.
     // Inlined, as the one below is, so that no deed is moved in memory at each call.
     #[inline(always)]
-    pub fn act(&mut self, deed: Deed) -> Result<Reply, OutOfMemory>
+    pub fn act(&mut self, alloc: Global, deed: Deed) -> Result<Reply, OutOfMemory>
         ensures done { IfOk result (λ reply. record { reply = reply; own = self.new } ≡ act deed self.old) }
         ensures err { OnErr result (self.new ≡ self.old) }
         ensures made { OnErr result (IsMake deed) }
@@ -93,6 +173,7 @@ impl Own {
                 None => self.make_alone(entry),
                 Some(parent) => self.make_child(entry, parent),
             },
+            Deed::MakeEach(entries) => self.make_each(alloc, entries.into_vec()),
             Deed::Change {
                 number,
                 entry,
@@ -103,7 +184,7 @@ impl Own {
 
     /// The same for a call that is not on the shared input: a deed on that is refused.
     #[inline(always)]
-    pub fn act_apart(&mut self, deed: Deed) -> Result<Reply, OutOfMemory>
+    pub fn act_apart(&mut self, alloc: Global, deed: Deed) -> Result<Reply, OutOfMemory>
         ensures done { IfOk result (λ reply. record { reply = reply; own = self.new } ≡ act (apart deed) self.old) }
         ensures err { OnErr result (self.new ≡ self.old) }
         ensures made { OnErr result (IsMake deed) }
@@ -111,7 +192,7 @@ impl Own {
         if deed.is_on_shared() {
             return Ok(trap(TrapText::ResourceWrongType));
         }
-        self.act(deed)
+        self.act(alloc, deed)
     }
 
     fn make_alone(&mut self, entry: Entry) -> Result<Reply, OutOfMemory>
@@ -122,6 +203,61 @@ impl Own {
             self.make(entry)
         } else {
             Ok(trap(TrapText::ResourceWrongType))
+        }
+    }
+
+    fn make_each(
+        &mut self,
+        alloc: Global,
+        entries: Vec<(Entry, Text)>,
+    ) -> Result<Reply, OutOfMemory>
+        ensures done { IfOk result (λ reply. record { reply = reply; own = self.new } ≡ act (Deed.MakeEach entries.items) self.old) }
+        ensures err { OnErr result (self.new ≡ self.old) }
+    {
+        if !entries.iter().all(|it| it.0.stands_alone()) {
+            return Ok(trap(TrapText::ResourceWrongType));
+        }
+        if !self.table.has_room(entries.len()) {
+            return Ok(trap(TrapText::ResourceTableFull));
+        }
+        self.hold_each(alloc, entries)
+    }
+
+    // .. where there is room for them
+    fn hold_each(
+        &mut self,
+        alloc: Global,
+        entries: Vec<(Entry, Text)>,
+    ) -> Result<Reply, OutOfMemory>
+        requires { has_room self.old.table (length entries.items) ≡ true }
+        ensures reply { IfOk result (λ reply. reply ≡ Reply.Directories (handles_made entries.items self.old.table)) }
+        ensures after { OnOk result (self.new ≡ record { table = with_each entries.items self.old.table }) }
+        ensures err { OnErr result (self.new ≡ self.old) }
+    {
+        let mut places = Vec::with_capacity(alloc, entries.len())?;
+        let mut handles = Vec::with_capacity(alloc, entries.len())?;
+        for (entry, path) in entries {
+            match self.hold(entry) {
+                Ok(place) => {
+                    places.push_reserved(place);
+                    handles.push_reserved((place.number, path));
+                }
+                Err(error) => {
+                    self.let_all_go(places);
+                    return Err(error);
+                }
+            }
+        }
+        Ok(Reply::Directories(Directories::new(handles)))
+    }
+
+    // takes all of them out again, the last one first
+    fn let_all_go(&mut self, places: Vec<Place>)
+        ensures { self.new ≡ record { table = all_let_go places.items self.old.table } }
+    {
+        let mut places = places;
+        while let Some(place) = places.pop() {
+            self.let_go(place);
         }
     }
 

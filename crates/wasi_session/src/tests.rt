@@ -1,10 +1,12 @@
 ghost use Rattle.std.specs.Prelude.{None};
 
 mod clocks;
+mod contexts;
 mod environment;
 mod generated;
 mod random;
 mod tasks;
+mod trees;
 
 use crate::{SessionError, run_program, run_session};
 use std::alloc::Global;

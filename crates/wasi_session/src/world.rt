@@ -1,5 +1,6 @@
-ghost use Rattle.std.specs.Prelude.{true, ◌≡◌, ◌^◌, ◌-◌, ◌<◌, ◌≤◌, IfOk, OnOk, OnErr, is_some, IsErr, Ok, Some, None, MatchOption, replicate, [], ◌++◌, length, take};
+ghost use Rattle.std.specs.Prelude.{true, false, ◌≡◌, ◌^◌, ◌-◌, ◌<◌, ◌≤◌, IfOk, OnOk, OnErr, is_some, IsErr, Ok, Some, None, MatchOption, replicate, [], ◌++◌, length, take};
 ghost use Rattle.std.specs.Map.{lookup};
+ghost use Rattle.std.specs.List.{list_any};
 ghost use Rattle.std.specs.Str.{bytes_eq};
 ghost use Rattle.wasi_base.specs.Causes.{Rose};
 ghost use Rattle.wasi_base.specs.Source.{Gives};
@@ -7,7 +8,7 @@ ghost use Rattle.wasi_stdin.specs.Shared.{given_now};
 ghost use Rattle.wasi_script.specs.Grammar.{setting_stands, budget_stands};
 ghost use Rattle.wasi_reply.specs.Reply.{OnFault};
 ghost use Rattle.wasi_reply.specs.Outputs.{output_lines};
-ghost use Rattle.wasi_host.specs.Host.{the_calls, the_rules, new_guest, configured, new_input, new_output, new_outlet, new_host, guest_of, answer, called_in, with_input, with_output, with_guest, delivery_told, after_delivery, captured_told, outcome_told, turn_told, after_turn, task_told, after_task, names_of, IsStep, OnInputFault, Fits, size_read};
+ghost use Rattle.wasi_host.specs.Host.{the_calls, the_rules, new_guest, with_context, with_capacity, configured, has_context_in, new_input, new_output, new_outlet, new_host, guest_of, answer, called_in, with_input, with_output, with_tree, with_node, with_fault, was_called_in, with_guest, delivery_told, after_delivery, captured_told, outcome_told, turn_told, after_turn, task_told, after_task, names_of, IsStep, OnInputFault, Fits, size_read};
 ghost use Rattle.wasi_host.specs.Clocks.{clocks_after};
 ghost use Rattle.wasi_host.specs.Transcript.{outputs_of};
 ghost use Rattle.std.specs.Option.{option_copied, option_map};
@@ -18,14 +19,15 @@ use crate::room::{room_of, shared_bytes};
 use crate::streams::Streams;
 use std::alloc::Global;
 use std::marker::Model;
-use wasi_base::{MemSink, MemSource, OutOfMemory, Source};
+use wasi_base::{IoKind, MemSink, MemSource, OutOfMemory, Source, Text};
+use wasi_fs::Tree;
 use wasi_host::{
     AsyncInput, BufferedOutput, Clocks, FileInput, FileOutput, InStream, OutStream, ProcessOutput,
 };
 use wasi_reply::{Reply, Told, Worked};
 use wasi_script::{
-    Call, ClockSetting, Declared, Input, InputDeclaration, Line, Name, OutputDeclaration, Setting,
-    StreamTask, WorkerTurn, WritePlan,
+    Call, ClockSetting, Context, Declared, Input, InputDeclaration, Line, Name, NewNode, OutputDeclaration,
+    Setting, StreamTask, WorkerTurn, WritePlan,
 };
 use wasi_stdin::{MOST_BYTES, Outcome, StdinCore, deliver_from};
 use wasi_streams::{MemoryInputPipe, MemoryOutputPipe};
@@ -37,6 +39,15 @@ fn outcome_told(outcome: Outcome) -> Worked
         Outcome::Gave(count) => Worked::Gave(count),
         Outcome::End => Worked::End,
         Outcome::Fault(kind) => Worked::Fault(kind),
+    }
+}
+
+fn was_called(guest: &Option<Guest>) -> bool
+    ensures { result ≡ was_called_in guest.now }
+{
+    match guest {
+        Some(guest) => guest.was_called(),
+        None => false,
     }
 }
 
@@ -179,6 +190,13 @@ impl World {
         self.guests.get(number as usize)?.as_ref()
     }
 
+    // Whether a guest has called.
+    fn is_called(&self) -> bool
+        ensures { result ≡ list_any was_called_in self.now.guests }
+    {
+        self.guests.iter().any(was_called)
+    }
+
     fn declare_input(
         &mut self,
         alloc: Global,
@@ -208,6 +226,33 @@ impl World {
         self.streams.add_output(alloc, name, output)
     }
 
+    fn declare_tree(&mut self, alloc: Global, name: &Name) -> Result<(), OutOfMemory>
+        requires { lookup (bytes_eq name.now) self.old.streams.trees ≡ None }
+        ensures ok { OnOk result (self.new ≡ with_tree name.now self.old) }
+        ensures err { OnErr result (self.new ≡ self.old) }
+    {
+        self.streams.add_tree(alloc, name, self.clocks.wall_now)
+    }
+
+    fn add_node(
+        &mut self,
+        alloc: Global,
+        tree: &Name,
+        path: &Text,
+        node: &NewNode,
+    ) -> Result<(), OutOfMemory>
+        ensures ok { OnOk result (self.new ≡ record self.old { streams = with_node tree.now path.now node.now self.old.clocks.wall_now self.old.streams }) }
+        ensures err { OnErr result (self.new ≡ self.old) }
+    {
+        self.streams.add_node(alloc, tree, path, node, self.clocks.wall_now)
+    }
+
+    fn fail_tree(&mut self, tree: &Name, kind: IoKind)
+        ensures { self.new ≡ record self.old { streams = with_fault tree.now kind self.old.streams } }
+    {
+        self.streams.fail_tree(tree, kind);
+    }
+
     fn declare_guest(&mut self, alloc: Global, guest: u32, input: &Input) -> Result<(), OutOfMemory>
         requires { guest < 64 }
         ensures ok { OnOk result (self.new ≡ with_guest guest (Some (new_guest input.now)) self.old) }
@@ -218,14 +263,50 @@ impl World {
         Ok(())
     }
 
-    fn configure(&mut self, alloc: Global, guest: u32, setting: &Setting) -> Result<(), OutOfMemory>
+    fn declare_context(
+        &mut self,
+        alloc: Global,
+        guest: u32,
+        id: u32,
+        input: &Input,
+    ) -> Result<(), OutOfMemory>
         requires there { is_some (guest_of self.old guest) ≡ true }
-        requires stands { setting_stands (names_of self.old) setting.now ≡ true }
-        ensures ok { OnOk result (self.new ≡ with_guest guest (option_map (configured setting.now) (guest_of self.old guest)) self.old) }
+        requires new { has_context_in (Some id) (guest_of self.old guest) ≡ false }
+        ensures ok { OnOk result (self.new ≡ with_guest guest (option_map (with_context id input.now) (guest_of self.old guest)) self.old) }
         ensures err { OnErr result (self.new ≡ self.old) }
     {
+        let input = copy_input(alloc, input)?;
         match &mut self.guests[guest as usize] {
-            Some(guest) => guest.configure(alloc, setting),
+            Some(guest) => guest.add_context(alloc, id, input),
+            None => unreachable!(),
+        }
+    }
+
+    fn set_capacity(&mut self, alloc: Global, guest: u32, capacity: u32)
+        requires there { is_some (guest_of self.old guest) ≡ true }
+        requires low { 1 ≤ capacity }
+        requires high { capacity ≤ 65536 }
+        ensures { self.new ≡ with_guest guest (option_map (with_capacity capacity) (guest_of self.old guest)) self.old }
+    {
+        match &mut self.guests[guest as usize] {
+            Some(guest) => guest.resize(alloc, capacity),
+            None => unreachable!(),
+        }
+    }
+
+    fn configure(
+        &mut self,
+        alloc: Global,
+        context: Context,
+        setting: &Setting,
+    ) -> Result<(), OutOfMemory>
+        requires there { is_some (guest_of self.old context.guest) ≡ true }
+        requires stands { setting_stands (names_of self.old) context setting.now ≡ true }
+        ensures ok { OnOk result (self.new ≡ with_guest context.guest (option_map (configured setting.now context.named) (guest_of self.old context.guest)) self.old) }
+        ensures err { OnErr result (self.new ≡ self.old) }
+    {
+        match &mut self.guests[context.guest as usize] {
+            Some(guest) => guest.configure(alloc, context.named, setting),
             None => unreachable!(),
         }
     }
@@ -238,16 +319,16 @@ impl World {
         self.streams.outputs(text)
     }
 
-    fn call(&mut self, alloc: Global, guest: u32, call: &Call) -> Result<Reply, OutOfMemory>
-        requires { is_some (guest_of self.old guest) ≡ true }
-        ensures reply { IfOk result (λ reply. reply ≡ (answer (the_calls self.old.clocks) call.now guest self.old).reply) }
-        ensures after { OnOk result (self.new ≡ called_in (the_calls self.old.clocks) call.now guest self.old) }
+    fn call(&mut self, alloc: Global, caller: Context, call: &Call) -> Result<Reply, OutOfMemory>
+        requires { is_some (guest_of self.old caller.guest) ≡ true }
+        ensures reply { IfOk result (λ reply. reply ≡ (answer (the_calls self.old.clocks) call.now caller self.old).reply) }
+        ensures after { OnOk result (self.new ≡ called_in (the_calls self.old.clocks) call.now caller self.old) }
         ensures err { OnErr result (self.new ≡ self.old) }
     {
-        match &mut self.guests[guest as usize] {
+        match &mut self.guests[caller.guest as usize] {
             Some(it) => it.call(
                 alloc,
-                guest,
+                caller,
                 call,
                 &self.clocks,
                 &mut self.core,
@@ -313,9 +394,24 @@ impl World {
         match line {
             Line::Input { name, input } => done(self.declare_input(alloc, name, input)),
             Line::Output { name, output } => done(self.declare_output(alloc, name, output)),
+            Line::Tree { name } => done(self.declare_tree(alloc, name)),
+            Line::Node { tree, path, node } => done(self.add_node(alloc, tree, path, node)),
+            Line::TreeFault { tree, kind } => {
+                self.fail_tree(tree, *kind);
+                Ok(Reply::Told(Told::Ok))
+            }
             Line::Guest { guest, input } => done(self.declare_guest(alloc, *guest, input)),
-            Line::Configure { guest, setting } => done(self.configure(alloc, *guest, setting)),
-            Line::Call { guest, call } => self.call(alloc, *guest, call),
+            Line::Context { guest, id, input } => {
+                done(self.declare_context(alloc, *guest, *id, input))
+            }
+            Line::Capacity { guest, capacity } => {
+                self.set_capacity(alloc, *guest, *capacity);
+                Ok(Reply::Told(Told::Ok))
+            }
+            Line::Configure { context, setting } => {
+                done(self.configure(alloc, *context, setting))
+            }
+            Line::Call { context, call } => self.call(alloc, *context, call),
             Line::Worker(WorkerTurn::Capture) => Ok(Reply::Worked(self.capture())),
             Line::Worker(WorkerTurn::Deliver) => Ok(Reply::Worked(self.deliver(stdin))),
             Line::Turn(task) => Ok(Reply::Worked(self.turn(task))),
@@ -349,8 +445,15 @@ impl Declared for World {
     }
 
     fn was_called(&self, guest: u32) -> bool {
+        match self.guests.get(guest as usize) {
+            Some(guest) => was_called(guest),
+            None => false,
+        }
+    }
+
+    fn has_context(&self, guest: u32, id: u32) -> bool {
         match self.guest(guest) {
-            Some(guest) => guest.was_called(),
+            Some(guest) => guest.has_context(id),
             None => false,
         }
     }
@@ -365,6 +468,28 @@ impl Declared for World {
 
     fn has_stdio(&self, name: &[u8]) -> bool {
         self.streams.has_stdio(name)
+    }
+
+    fn was_given(&self, context: &Context) -> bool {
+        match self.guest(context.guest) {
+            Some(guest) => guest.was_given(context.named),
+            None => false,
+        }
+    }
+
+    fn tree_count(&self) -> usize {
+        self.streams.trees().count()
+    }
+
+    fn has_tree(&self, name: &[u8]) -> bool {
+        self.streams.trees().has(name)
+    }
+
+    fn growing(&self, name: &[u8]) -> Option<&Tree> {
+        if self.is_called() {
+            return None;
+        }
+        self.streams.trees().get(name)
     }
 }
 

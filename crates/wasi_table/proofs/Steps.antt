@@ -14,7 +14,7 @@ use Rattle.std.specs.FinMap as finite
 use Rattle.wasi_table.specs.declared.rows.Row.{Row}
 use Rattle.wasi_table.specs.Table.{Table, held_at, live_count, has_children, parent_in, number_of, next_after, freed_after, with_entry, with_pushed, without, push_refusal}
 use Rattle.wasi_table.specs.Sound.{IsTable}
-use Rattle.wasi_table.specs.laws.Kept.{with_entry-IsTable, without-IsTable, pushed-IsTable, held-next_number, parent_live, live_positive}
+use Rattle.wasi_table.specs.laws.Kept.{with_entry-IsTable, without-IsTable, pushed-IsTable, held-next_number, parent_live, live_positive, last_ungiven}
 use Rattle.wasi_table.specs.Rows.{held_in, held_rows, table_of, row_at, names, named, children_in, IsKept, IsRecount, IsAdded, CanAdd}
 use Rattle.wasi_table.proofs.RowFacts.{some_inj, held_opt, held_at-rows, len-rows, has_children-rows, rows-insert, rows-remove, turned}
 use Rattle.wasi_table.proofs.Recounts.{IsTakenOut, lowered}
@@ -170,3 +170,19 @@ none_freed [] is = refl
 none_freed (x ∷ xs) is =
     let within : length (x ∷ xs) - 1 < length (x ∷ xs) = omega arith in
     absurd (true≢false (sym (ap is_some (is ∙ slice_get-get_or (x ∷ xs) (length (x ∷ xs) - 1) 0 within))))
+
+-- .. and is as if it had never been given
+head_and_tail : (zs : List ℕ) (n : ℕ) → ((d : ℕ) → number_of zs d ≡ n) → zs ≡ n ∷ freed_after zs
+head_and_tail [] n is = let wrong : n + 1 ≡ n = is (n + 1) in absurd (omega (arith, wrong))
+head_and_tail (z ∷ zs) n is = ap (λ k. k ∷ zs) (is 0)
+
+pub last_turned : (xs ys : List ℕ) (n : ℕ) (popped : Option ℕ) → Some n ≡ slice_get xs (length xs - 1) → xs ≡ ys ++ option_to_list popped → (0 < length xs → IsSome popped) → reverse xs ≡ n ∷ reverse ys
+last_turned xs ys n popped is parts some = head_and_tail (reverse xs) n (λ d. last_number xs n d is) ∙ ap (λ l. n ∷ l) (sym (last_popped xs n 0 is ys popped parts some))
+
+pub ungiven_kept : {E : Type 0} (es : List (ℕ × Row E)) (freed now : List ℕ) (n next capacity reserved places : ℕ) → IsKept es freed next capacity reserved → reverse freed ≡ n ∷ reverse now → n + 1 ≡ next → places ≡ reserved → IsKept es now n capacity places
+ungiven_kept {E} es freed now n next capacity reserved places kept turned last same = record {
+  ordered = kept.ordered;
+  sound = last_ungiven (finite.from_sorted (held_rows es)) n (reverse now) next capacity last (subst (λ ns. IsTable {E = E} (record { entries = finite.from_sorted (held_rows es); freed = ns; next = next; capacity = capacity })) turned kept.sound);
+  counts = kept.counts;
+  places = let le : next ≤ reserved = kept.places in omega (arith, le, same, last);
+}

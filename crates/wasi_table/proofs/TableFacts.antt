@@ -1,5 +1,5 @@
 -- What the rows tell of the table.
-use Rattle.std.proofs.Common.{◌≡◌, ◌≢◌, ℕ, ◌≤◌, ◌<◌, Bool, true, false, cond, List, [], ◌∷◌, length, Option, Some, None, Ok, Err, is_some, is_ok, true≢false, refl, sym, inl, inr, ◌∙◌, ap, subst, arith}
+use Rattle.std.proofs.Common.{◌≡◌, ◌≢◌, ℕ, ◌+◌, ◌-◌, ◌≤◌, ◌<◌, Bool, true, false, cond, List, [], ◌∷◌, length, Option, Some, None, Ok, Err, is_some, is_ok, true≢false, refl, sym, inl, inr, ◌∙◌, ap, subst, arith}
 use Rattle.std.proofs.lemmas.Bool.{eq-eqb, ne_eqb, cond-true, cond-false, cases_order, le-leb, lt-leb}
 use Rattle.std.specs.List.Sorted.{IsStrictlySortedBy}
 use Rattle.std.specs.Prelude.{eqb, nat_lt, nat_le, slice_get, ◌⊎◌, ◌&&◌}
@@ -14,8 +14,8 @@ use Rattle.std.specs.FinMap as finite
 use Rattle.std.specs.FinMap.{nat_cmp-IsAntisymmetric, same_map, get-from_sorted, get-empty}
 use Rattle.wasi_table.specs.declared.rows.Row.{Row}
 use Rattle.wasi_table.specs.declared.error.TableError.TheVariants.{NotPresent, WrongType}
-use Rattle.wasi_table.specs.Table.{Table, Held, held_at, is_live, first_from, live_count, has_children, new_table, got, of_kind}
-use Rattle.wasi_table.specs.laws.Kept.{new_table-IsTable}
+use Rattle.wasi_table.specs.Table.{Table, Held, held_at, is_live, first_from, live_count, has_children, new_table, got, of_kind, has_room, next_number}
+use Rattle.wasi_table.specs.laws.Kept.{new_table-IsTable, held-next_number}
 use Rattle.wasi_table.specs.Sound.{IsTable}
 use Rattle.wasi_table.specs.Rows.{table_of, row_at, named, children_in, IsKept}
 use Rattle.wasi_table.proofs.RowFacts.{held_opt, held_at-rows, keys-rows, len-rows, has_children-rows}
@@ -95,3 +95,35 @@ kept_empty {E} es freed capacity reserved none_left none_freed ordered low high 
   counts = λ n. ap (λ rows. named rows n) none_left ∙ sym (ap (λ rows. children_in (row_at rows n)) none_left);
   places = omega arith;
 }
+
+-- ---- the room that is left, and the next number
+room_left : (count live capacity : ℕ) → live ≤ capacity → nat_le count (capacity - live) ≡ nat_le (live + count) capacity
+room_left count live capacity within = by (cases_order count (capacity - live))
+  where
+    by : (count ≡ capacity - live) ⊎ ((count < capacity - live) ⊎ (capacity - live < count)) → nat_le count (capacity - live) ≡ nat_le (live + count) capacity
+    by (inl same) = le-leb count (capacity - live) (omega (arith, same)) ∙ sym (le-leb (live + count) capacity (omega (arith, same, within)))
+    by (inr (inl below)) = le-leb count (capacity - live) (omega (arith, below)) ∙ sym (le-leb (live + count) capacity (omega (arith, below, within)))
+    by (inr (inr above)) = lt-leb count (capacity - live) above ∙ sym (lt-leb (live + count) capacity (omega (arith, above, within)))
+
+module _ {E : Type 0} (t : Table E) (es : List (ℕ × Row E)) (freed : List ℕ) (next capacity reserved : ℕ) (view_is : table_of es freed next capacity ≡ t) (kept : IsKept es freed next capacity reserved) where
+  pub rows_within : length es ≤ capacity
+  rows_within =
+      let count = len-rows es kept.ordered in
+      let room : live_count (table_of es freed next capacity) ≤ capacity = kept.sound.room in
+      omega (arith, count, room)
+
+  pub room_is : (count : ℕ) → nat_le count (capacity - length es) ≡ has_room t count
+  room_is count = room_left count (length es) capacity rows_within ∙ ap (λ n. nat_le (n + count) capacity) (sym (len-rows es kept.ordered)) ∙ ap (λ x. has_room x count) view_is
+
+  pub sound_is : IsTable t
+  sound_is = subst IsTable view_is kept.sound
+
+  pub next_is_free : held_at t (next_number t) ≡ None
+  next_is_free = held-next_number t sound_is
+
+  pub next_is_childless : has_children t (next_number t) ≡ false
+  next_is_childless = children_is t es freed next capacity view_is kept.ordered (next_number t) ∙ ap (nat_lt 0) (kept.counts (next_number t) ∙ none (row_at es (next_number t)) refl)
+    where
+      none : (o : Option (Row E)) → o ≡ row_at es (next_number t) → children_in (row_at es (next_number t)) ≡ 0
+      none None is = ap children_in (sym is)
+      none (Some row) is = absurd (true≢false (sym (ap is_some (sym next_is_free ∙ held_is t es freed next capacity view_is kept.ordered (next_number t) (Some row) is))))

@@ -1,5 +1,5 @@
 -- What a table of entries is, and what each call answers and leaves.
-use Rattle.std.specs.Prelude.{◌≡◌, ℕ, ◌+◌, Bool, false, cond, eqb, nat_le, List, [], ◌∷◌, slice_get, Option, Some, None, Result, Ok, Err, refl}
+use Rattle.std.specs.Prelude.{◌≡◌, ℕ, ◌+◌, Bool, true, false, cond, eqb, nat_le, List, [], ◌∷◌, slice_get, Option, Some, None, Result, Ok, Err, refl}
 use Rattle.std.specs.List.{list_any, filter}
 use Rattle.std.specs.Ordering.{nat_cmp}
 use Rattle.std.specs.FinMap as map
@@ -141,3 +141,29 @@ deleted_as t n (Ok entry) = cond (has_children t n) (Err HasChildren, t) (Ok ent
 -- the answer of a delete, and the table after it
 abbrev pub deleted : {E : Type 0} → (E → ℕ) → Table E → ℕ → ℕ → Result E TableError × Table E
 deleted kind_of t n kind = deleted_as t n (got kind_of t n kind)
+
+-- ---- a push that is taken back
+abbrev pub is_any : List ℕ → Bool
+is_any [] = false
+is_any (n ∷ rest) = true
+
+abbrev pub has_freed : {E : Type 0} → Table E → Bool
+has_freed t = is_any t.freed
+
+abbrev pub has_room : {E : Type 0} → Table E → ℕ → Bool
+has_room t count = nat_le (live_count t + count) t.capacity
+
+-- the number freed last is as if it had never been given, where none greater was
+abbrev pub ungiven_from : {E : Type 0} → List ℕ → Table E → Table E
+ungiven_from [] t = t
+ungiven_from (n ∷ freed) t = cond (eqb (n + 1) t.next) (record t { freed = freed; next = n }) t
+
+abbrev pub ungiven : {E : Type 0} → Table E → Table E
+ungiven t = ungiven_from t.freed t
+
+-- its number is free again, or it was the first to be given it
+abbrev pub left_free : {E : Type 0} → Bool → Table E → Table E
+left_free fresh t = cond fresh (ungiven t) t
+
+abbrev pub taken_back : {E : Type 0} → ℕ → Bool → Table E → Table E
+taken_back n fresh t = cond (has_children t n) t (cond (is_live t n) (left_free fresh (without t n)) t)

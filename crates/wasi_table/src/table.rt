@@ -1,6 +1,6 @@
 ghost use Rattle.std.specs.Prelude.{◌≡◌, ℕ, ◌≤◌, ◌<◌, Option, Some, None, Ok, Err, IfOk, OnOk, OnErr, OnSome, IfNone, MatchResult, false};
 ghost use Rattle.std.specs.Borrow.{sem};
-ghost use Rattle.wasi_table.specs.Table.{new_table, live_count, has_children, got, kind_at, deleted, push_refusal, next_number, with_pushed, without, IsPush, first_from, held_at, entry_in};
+ghost use Rattle.wasi_table.specs.Table.{new_table, live_count, has_children, got, kind_at, deleted, push_refusal, next_number, with_pushed, without, IsPush, first_from, held_at, entry_in, has_freed, has_room, ungiven, taken_back};
 ghost use Rattle.wasi_table.specs.Sound.{IsTable};
 ghost use Rattle.wasi_table.specs.Lending.{LendsEntry};
 
@@ -112,6 +112,54 @@ impl<K: Kinded + Drop> ResourceTable<K> {
         match self.remove(number) {
             Some(entry) => Ok(entry),
             None => Err(TableError::NotPresent),
+        }
+    }
+
+    /// Whether a number was freed and not given again since: the next push gives such a one.
+    /// Nothing stands at the number that it gives, and nothing is under that.
+    pub fn has_freed(&self) -> bool
+        ensures is { result ≡ has_freed self.now }
+        ensures free { held_at self.now (next_number self.now) ≡ None }
+        ensures childless { has_children self.now (next_number self.now) ≡ false }
+    {
+        !self.freed.is_empty()
+    }
+
+    /// Whether so many more entries may live.
+    pub fn has_room(&self, count: usize) -> bool
+        ensures { result ≡ has_room self.now count }
+    {
+        count <= self.capacity as usize - self.rows.len()
+    }
+
+    /// Takes a push back that gave this number, with nothing done since, so that the table is as it
+    /// was before: `fresh` says that no number was freed then. It takes no memory.
+    pub fn take_back(&mut self, number: u32, fresh: bool)
+        ensures { self.new ≡ taken_back number fresh self.old }
+    {
+        if self.has_children(number) {
+            return;
+        }
+        match self.remove(number) {
+            Some(_) => {
+                if fresh {
+                    self.ungive();
+                }
+            }
+            None => {}
+        }
+    }
+
+    // the number that was freed last is as if it had never been given, where none greater was
+    fn ungive(&mut self)
+        ensures { self.new ≡ ungiven self.old }
+    {
+        let Some(&number) = self.freed.last() else {
+            return;
+        };
+        if number + 1 == self.next {
+            self.freed.pop();
+            self.next = number;
         }
     }
 

@@ -119,7 +119,7 @@ in_bytes Held s size = take_drop size s.held
 in_bytes (Failed kind) s size = ap (λ bs. bs ++ s.held) (fault_bytes kind)
 in_bytes Closed s size = refl
 
-read_bytes : (s : Shared) (size : ℕ) → bytes_read (reading_of s size) ++ (after_read s size).held ≡ s.held
+pub read_bytes : (s : Shared) (size : ℕ) → bytes_read (reading_of s size) ++ (after_read s size).held ≡ s.held
 read_bytes s zero = refl
 read_bytes s (suc n) = in_bytes s.mode s (suc n)
 
@@ -130,22 +130,22 @@ polled_bytes Held s room = take_drop room s.held
 polled_bytes (Failed kind) s room = refl
 polled_bytes Closed s room = refl
 
-polling_bytes : (b : Bool) (s : Shared) (room : ℕ) → bytes_polled (cond b Pending (polling (meeting_of s room))) ++ (cond b s (after_meeting s room)).held ≡ s.held
+pub polling_bytes : (b : Bool) (s : Shared) (room : ℕ) → bytes_polled (cond b Pending (polling (meeting_of s room))) ++ (cond b s (after_meeting s room)).held ≡ s.held
 polling_bytes true s room = refl
 polling_bytes false s room = polled_bytes s.mode s room
 
 append_nil : (xs : List ℕ) → xs ++ [] ≡ xs
 append_nil xs = grind (arith, common_steps)
 
-block_held : (s : Shared) (w : Option ℕ) → (after_block s w).held ≡ s.held
+pub block_held : (s : Shared) (w : Option ℕ) → (after_block s w).held ≡ s.held
 block_held s None = refl
 block_held s (Some w) = refl
 
-captured_held : (c : Option ℕ) (s : Shared) → (captured_by c s).held ≡ s.held
+pub captured_held : (c : Option ℕ) (s : Shared) → (captured_by c s).held ≡ s.held
 captured_held None s = refl
 captured_held (Some n) s = refl
 
-given_held : (o : Outcome) (bytes : List ℕ) (c : Option ℕ) (s : Shared) → IsSomeAnd c (λ size. FitsOutcome o bytes size) → (delivered s (outcome_given o bytes)).held ≡ bytes
+pub given_held : (o : Outcome) (bytes : List ℕ) (c : Option ℕ) (s : Shared) → IsSomeAnd c (λ size. FitsOutcome o bytes size) → (delivered s (outcome_given o bytes)).held ≡ bytes
 given_held o bytes None s h = absurd h
 given_held (outcome.Gave n) bytes (Some c) s h = refl
 given_held outcome.End bytes (Some c) s h = sym h

@@ -2,4 +2,5 @@ pub mod HistoryFacts
 pub mod CallFacts
 pub mod RoundFacts
 pub mod BytesFacts
+pub mod ShareFacts
 pub mod PartFacts

@@ -1,3 +1,4 @@
+pub mod Pieces
 pub mod Passes
 pub mod History
 pub mod Calls

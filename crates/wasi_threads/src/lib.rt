@@ -3,6 +3,7 @@
 
 mod collect;
 mod entry;
+mod input;
 mod laws;
 mod parts;
 mod pass;

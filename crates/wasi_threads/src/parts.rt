@@ -4,11 +4,13 @@ ghost use Rattle.wasi_threads.specs.History.{kept_reading, kept_polling};
 ghost use Rattle.wasi_stdin.specs.Shared.{reading_of, after_read, bytes_read, reading_in as reading_out, poll_of, after_poll, wait_after_poll, bytes_polled, polled_in};
 
 use crate::entry::Kept;
-use crate::piece::Piece;
+use crate::input::Input;
+use crate::piece::{Piece, filled};
 use crate::reply::{PolledReply, ReadReply};
+use bytes::Bytes;
 use std::alloc::Global;
 use wasi_base::OutOfMemory;
-use wasi_stdin::{Answer, PolledRead, StdinCore, Wait};
+use wasi_stdin::{Answer, PolledRead, Wait};
 
 /// What a read answers, with what its two entries keep.
 #[derive(Drop)]
@@ -28,21 +30,9 @@ pub(crate) struct PollParts {
     pub copy: Piece,
 }
 
-// bytes into a room that was reserved
-fn filled(mut room: Vec<u8>, bytes: &[u8]) -> Piece
-    requires fits { vec_len room + length bytes.now ≤ vec_capacity room }
-    requires empty { vec_len room ≡ 0 }
-    ensures { result ≡ bytes.now }
-{
-    match room.extend_from_slice(bytes) {
-        Ok(()) => Piece::new(room),
-        Err(_) => unreachable!(),
-    }
-}
-
 /// One read, all memory taken before it.
 pub(crate) fn read_parts(
-    core: &mut StdinCore,
+    core: &mut Input,
     alloc: Global,
     size: u64,
 ) -> Result<ReadParts, OutOfMemory>
@@ -53,53 +43,51 @@ pub(crate) fn read_parts(
     ensures after { OnOk result (core.new ≡ after_read core.old size) }
     ensures refused { OnErr result (core.new ≡ core.old) }
 {
-    let count = core.would_give(size);
-    let mut given = vec![in alloc; 0u8; count]?;
-    let bytes = Vec::with_capacity(alloc, count)?;
-    let copy = Vec::with_capacity(alloc, count)?;
-    let answer = core.read(size, given.as_mut_slice());
+    let given = core.held(alloc)?;
+    let bytes = given.clone()?;
+    let copy = given.clone()?;
+    let answer = core.skip(size);
     Ok(answered(answer, given, bytes, copy))
 }
 
-// the reply and the copies
-fn answered(answer: Answer, mut given: Vec<u8>, bytes: Vec<u8>, copy: Vec<u8>) -> ReadParts
-    requires empty { (vec_len bytes ≡ 0) × (vec_len copy ≡ 0) }
-    requires room { (vec_len given ≤ vec_capacity bytes) × (vec_len given ≤ vec_capacity copy) }
-    ensures reply { reading_in result.reply ≡ reading_out answer given.items }
-    ensures answer { result.answer ≡ kept_reading (reading_out answer given.items) }
-    ensures bytes { result.bytes ≡ bytes_read (reading_out answer given.items) }
-    ensures copy { result.copy ≡ bytes_read (reading_out answer given.items) }
+// the reply and its entries' bytes, as many of the first ones as were handed out
+fn answered(answer: Answer, mut given: Bytes, mut bytes: Bytes, mut copy: Bytes) -> ReadParts
+    requires same { (bytes ≡ given) × (copy ≡ given) }
+    ensures reply { reading_in result.reply ≡ reading_out answer given }
+    ensures answer { result.answer ≡ kept_reading (reading_out answer given) }
+    ensures bytes { result.bytes ≡ bytes_read (reading_out answer given) }
+    ensures copy { result.copy ≡ bytes_read (reading_out answer given) }
 {
     match answer {
         Answer::Bytes(count) => {
             given.truncate(count);
-            let bytes = filled(bytes, given.as_slice());
-            let copy = filled(copy, given.as_slice());
+            bytes.truncate(count);
+            copy.truncate(count);
             ReadParts {
                 answer: Kept::Count(given.len() as u64),
-                reply: ReadReply::Bytes(Piece::new(given)),
-                bytes,
-                copy,
+                reply: ReadReply::Bytes(Piece::shared(given)),
+                bytes: Piece::shared(bytes),
+                copy: Piece::shared(copy),
             }
         }
         Answer::Closed => ReadParts {
             reply: ReadReply::Closed,
             answer: Kept::Closed,
-            bytes: Piece::new(bytes),
-            copy: Piece::new(copy),
+            bytes: Piece::shared(Bytes::new()),
+            copy: Piece::shared(Bytes::new()),
         },
         Answer::Failed(kind) => ReadParts {
             reply: ReadReply::Failed(kind),
             answer: Kept::Failed(kind),
-            bytes: Piece::new(bytes),
-            copy: Piece::new(copy),
+            bytes: Piece::shared(Bytes::new()),
+            copy: Piece::shared(Bytes::new()),
         },
     }
 }
 
 /// One polled read, all memory taken before it.
 pub(crate) fn poll_parts(
-    core: &mut StdinCore,
+    core: &mut Input,
     alloc: Global,
     wait: &mut Wait,
     room: u64,

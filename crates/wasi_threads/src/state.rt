@@ -7,6 +7,7 @@ ghost use Rattle.wasi_threads.specs.declared.entry.Kept.TheVariants as kept;
 ghost use Rattle.wasi_stdin.specs.Shared.{reading_of, bytes_read, skipped, skipped_in, is_ready, block_of, poll_of, bytes_polled, capture_of, FitsOutcome};
 
 use crate::entry::{Entry, Event, Kept};
+use crate::input::Input;
 use crate::parts::{PollParts, ReadParts, poll_parts, read_parts};
 use crate::pass::{Made, Pass};
 use crate::piece::Piece;
@@ -39,7 +40,7 @@ impl<L: Ledger> Rest<L> {
 /// calls, and the book that counts its entries. The history replays to what stands.
 #[derive(Drop)]
 pub struct State<L: Ledger> {
-    core: StdinCore,
+    core: Input,
     stops: Vec<bool>,
     saw: bool,
     stopped: bool,
@@ -69,7 +70,7 @@ impl<L: Ledger> State<L> {
         requires many { blank.parts ≡ 9223372036854775807 }
         ensures { IfOk result (λ s. s ≡ record { now = opening; history = [] }) }
     {
-        let core = StdinCore::new(alloc)?;
+        let core = Input::new(alloc)?;
         let history = Vec::with_capacity(alloc, 1)?;
         let (book, share) = blank.open::<L>();
         Ok(State {
@@ -93,7 +94,7 @@ impl<L: Ledger> State<L> {
         ensures ends { replayed opening self.history ≡ self.now }
     {
         let history = self.history;
-        let core = self.core;
+        let core = self.core.into_core();
         (history, core)
     }
 
@@ -343,7 +344,7 @@ impl<L: Ledger> State<L> {
         ensures makes { Makes self.old self.new pass.old pass.new (event.Deliver outcome) bytes }
         ensures gains { Gains pass.old pass.new (event.Deliver outcome) kept.None bytes None }
     {
-        self.core.deliver(outcome, bytes.as_slice());
+        self.core.deliver(outcome, &bytes);
         self.places -= 1;
         let made = Made {
             event: Event::Deliver(outcome),

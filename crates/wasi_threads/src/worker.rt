@@ -12,7 +12,7 @@ ghost use Rattle.wasi_threads.specs.Ends.{end_holds};
 ghost use Rattle.wasi_stdin.specs.Shared.{FitsOutcome, outcome_of, outcome_given, OnFault};
 
 use crate::pass::Pass;
-use crate::piece::Piece;
+use crate::piece::{Piece, twice};
 use crate::round::{Round, Step, Taken};
 use crate::shared::SharedStdin;
 use crate::state::State;
@@ -73,7 +73,7 @@ pub(crate) fn read_once<S: Source>(source: &mut S, round: Round, alloc: Global) 
     let Round {
         size: _,
         mut given,
-        mut copy,
+        copy,
     } = round;
     match source.read(given.as_mut_slice()) {
         Ok(0) => Gift {
@@ -83,13 +83,11 @@ pub(crate) fn read_once<S: Source>(source: &mut S, round: Round, alloc: Global) 
         },
         Ok(count) => {
             given.truncate(count);
-            match copy.extend_from_slice(given.as_slice()) {
-                Ok(()) => Gift {
-                    outcome: Outcome::Gave(count),
-                    bytes: Piece::new(given),
-                    copied: Piece::new(copy),
-                },
-                Err(_) => unreachable!(),
+            let (bytes, copied) = twice(given, copy);
+            Gift {
+                outcome: Outcome::Gave(count),
+                bytes,
+                copied,
             }
         }
         Err(kind) => Gift {

@@ -117,7 +117,7 @@ fn files_and_sockets(rt: HostRuntime) {
     let mut builder = WasiCtxBuilder::new(rt.alloc());
     let mut want = defaults();
     builder.allow_blocking_current_thread(true);
-    want.filesystem.allow_blocking_current_thread = true;
+    want.blocking = true;
     builds(&rt, builder, &want);
     let mut builder = WasiCtxBuilder::new(rt.alloc());
     let mut want = defaults();

@@ -1,7 +1,7 @@
 //! Each call that takes memory finds it, with the least arguments and with the greatest.
 
 use super::{add_directory, add_file, add_link, rename, set_size, write};
-use crate::{At, Kind, Nodes, StoreError, Text};
+use crate::{At, Kind, Nodes, StoreError};
 use std::alloc::Global;
 use std::test::Fail;
 use wasi_fs_types::ErrorCode;
@@ -42,7 +42,6 @@ fn bytes_find_memory(alloc: Global, bytes: &[u8]) -> Result<bool, Fail> {
 fn the_least_arguments_find_memory(rt: HostRuntime) -> Result<(), Fail> {
     assert!(rt; names_find_memory(rt.alloc(), "", "o", b"")?);
     assert!(rt; bytes_find_memory(rt.alloc(), b"")?);
-    assert_eq!(rt; Text::copy_of(rt.alloc(), "")?.len(), 0);
     Ok(())
 }
 

@@ -29,7 +29,6 @@ use Rattle.wasi_cli.specs.StdoutPolls.{of_handle, write_poll, ended_by, second_p
 use Rattle.wasi_script.specs.declared.lines.OutputDeclaration.{OutputDeclaration}
 use Rattle.wasi_script.specs.declared.lines.OutputDeclaration.TheVariants as declared_out
 use Rattle.wasi_script.specs.declared.lines.Standard.{Standard}
-use Rattle.wasi_script.specs.declared.lines.Standard.TheVariants as standard
 use Rattle.wasi_script.specs.declared.lines.EntryCall.{EntryCall}
 use Rattle.wasi_script.specs.declared.lines.EntryCall.TheVariants as on
 use Rattle.wasi_script.specs.declared.lines.Line.{Line}
@@ -47,13 +46,14 @@ use Rattle.wasi_host.specs.declared.leaver.Leaver.{Leaver}
 use Rattle.wasi_host.specs.Turns.{InTurn}
 use Rattle.wasi_host.specs.OutStreams.{taken_of, output_without}
 use Rattle.wasi_host.specs.Tasks.{output_turned, writer_turned}
-use Rattle.wasi_host.specs.Deeds.{Own, entry_at, act, apart, with_kept, trapped, may_change, same_standard}
+use Rattle.wasi_host.specs.Deeds.{Own, entry_at, act, apart, with_kept, trapped, may_change}
 use Rattle.wasi_host.specs.Calls.{Owner, result_told, poll_told, is_done}
 use Rattle.wasi_host.specs.Host.{Host, new_output, step_reply, step_host, step_told, given_for, size_read, new_host, host_end}
 use Rattle.wasi_host.specs.Promises.{step_call_on}
 use Rattle.wasi_host.specs.Buffers.{buffer_in, holder_in, accepted_of, accepted_by, accepted, Failed, HasAccepted, OnBuffer, TellsFault, MayTellFault, KeepsFault, FaultOf, FaultStep, FaultsAreTold, BuffersKeep}
 use Rattle.wasi_host.specs.laws.Tasks.{sort_of, sent_sort}
 use Rattle.wasi_host.specs.laws.Filled.{printed}
+use Rattle.wasi_host.specs.laws.Contexts.{same_streams}
 use Rattle.wasi_host.specs.laws.Walk.{HoldsOfEach, left_by, told_by, step_holds}
 
 -- ---- the bytes: an output that is not declared accepted none, and of one that does not buffer nothing is said
@@ -314,14 +314,9 @@ poll_flush_fault handle owner turn w = by handle.flushing
     by false = first_fault handle.handle owner turn w
 
 -- ---- an entry that stands at its number is changed
-same_standards : (to : Standard) → same_standard to to ≡ true
-same_standards standard.Input = refl
-same_standards standard.Output = refl
-same_standards standard.Error = refl
-
-change_told : (own : Own) (n : ℕ) (to : Standard) (old new : StdoutHandle) (answer : Answer) → entry_at own n ≡ Some (entry.Stream to (at.Polled old)) → (act (apart (Change n (entry.Stream to (at.Polled new)) answer)) own).reply ≡ reply.Told answer
-change_told own n to old new answer held =
-    ap (λ may. (cond may (record { reply = reply.Told answer; own = with_kept own n (entry.Stream to (at.Polled new)) }) (trapped ResourceWrongType own)).reply) (ap (λ o. may_change o (entry.Stream to (at.Polled new))) held ∙ same_standards to)
+change_told : (own : Own) (n : ℕ) (of : Option ℕ) (to : Standard) (old new : StdoutHandle) (answer : Answer) → entry_at own n ≡ Some (entry.Stream of to (at.Polled old)) → (act (apart (Change n (entry.Stream of to (at.Polled new)) answer)) own).reply ≡ reply.Told answer
+change_told own n of to old new answer held =
+    ap (λ may. (cond may (record { reply = reply.Told answer; own = with_kept own n (entry.Stream of to (at.Polled new)) }) (trapped ResourceWrongType own)).reply) (ap (λ o. may_change o (entry.Stream of to (at.Polled new))) held ∙ same_streams of to)
 
 -- ---- any call
 unsaid : (s : OutStream) → nat_eq (sort_of s) 2 ≡ false → (so_far : List ℕ) → Has (Some s) so_far
@@ -332,8 +327,8 @@ unsaid (stream.Stdio out) e so_far = tt
 unsaid stream.Closed e so_far = tt
 unsaid stream.Sink e so_far = tt
 
-module _ (which : Standard) (owner : Owner) (own : Own) where
-  buffer_keeps : (call : EntryCall) (e : StreamEntry) (it : InTurn (Writer Outlet)) → entry_at own owner.number ≡ Some (entry.Stream which e) → Keeps (Some (call, e)) (told_by call which owner e own (stream.Buffered it)) (Some (stream.Buffered it)) (Some (left_by call which owner e (stream.Buffered it)))
+module _ (of : Option ℕ) (which : Standard) (owner : Owner) (own : Own) where
+  buffer_keeps : (call : EntryCall) (e : StreamEntry) (it : InTurn (Writer Outlet)) → entry_at own owner.number ≡ Some (entry.Stream of which e) → Keeps (Some (call, e)) (told_by call of which owner e own (stream.Buffered it)) (Some (stream.Buffered it)) (Some (left_by call of which owner e (stream.Buffered it)))
   buffer_keeps (on.Write bytes) at.Plain it held = λ so_far has. plain_write it.turn.holder bytes it.stream so_far has
   buffer_keeps on.CheckWrite at.Plain it held = λ so_far has. plain_check it.turn.holder it.stream so_far has
   buffer_keeps on.Flush at.Plain it held = λ so_far has. plain_flush it.turn.holder it.stream so_far has
@@ -341,7 +336,7 @@ module _ (which : Standard) (owner : Owner) (own : Own) where
   buffer_keeps on.Block at.Pollable it held = λ so_far has. has_more it.stream.trouble it.stream.sink.taken it.stream.buffered so_far has
   buffer_keeps (on.PollWrite piece) (at.Polled handle) it held = λ so_far has.
       let poll = write_poll handle owner it.turn it.stream piece in
-      subst (λ answer. HasW poll.stream (so_far ++ accepted_of (on.PollWrite piece) (at.Polled handle) answer)) (sym (change_told own owner.number which handle poll.handle (poll_told told.Count poll.answer) held)) (poll_write_keeps handle owner it.turn it.stream piece so_far has)
+      subst (λ answer. HasW poll.stream (so_far ++ accepted_of (on.PollWrite piece) (at.Polled handle) answer)) (sym (change_told own owner.number of which handle poll.handle (poll_told told.Count poll.answer) held)) (poll_write_keeps handle owner it.turn it.stream piece so_far has)
   buffer_keeps on.PollFlush (at.Polled handle) it held = λ so_far has.
       let poll = flush_poll handle owner it.turn it.stream in
       has_more poll.stream.trouble poll.stream.sink.taken poll.stream.buffered so_far (poll_flush_keeps handle owner it.turn it.stream so_far has)
@@ -349,7 +344,7 @@ module _ (which : Standard) (owner : Owner) (own : Own) where
   buffer_keeps other (at.Polled handle) it held = λ so_far has. has_more it.stream.trouble it.stream.sink.taken it.stream.buffered so_far has
   buffer_keeps other at.Pollable it held = λ so_far has. has_more it.stream.trouble it.stream.sink.taken it.stream.buffered so_far has
 
-  buffer_fault : (call : EntryCall) (e : StreamEntry) (it : InTurn (Writer Outlet)) → entry_at own owner.number ≡ Some (entry.Stream which e) → FaultStep it.turn.holder (Some (call, e)) (told_by call which owner e own (stream.Buffered it)) (Some it.stream) (buffer_in (Some (left_by call which owner e (stream.Buffered it))))
+  buffer_fault : (call : EntryCall) (e : StreamEntry) (it : InTurn (Writer Outlet)) → entry_at own owner.number ≡ Some (entry.Stream of which e) → FaultStep it.turn.holder (Some (call, e)) (told_by call of which owner e own (stream.Buffered it)) (Some it.stream) (buffer_in (Some (left_by call of which owner e (stream.Buffered it))))
   buffer_fault (on.Write bytes) at.Plain it held = (after_unless_held it.turn.holder it.stream (after_writer_write it.stream bytes), refl, write_tells it.turn.holder bytes it.stream)
   buffer_fault on.CheckWrite at.Plain it held = (after_unless_held it.turn.holder it.stream (after_writer_check_write it.stream), refl, check_tells it.turn.holder it.stream)
   buffer_fault on.Flush at.Plain it held = (after_unless_held it.turn.holder it.stream (after_writer_flush it.stream), refl, flush_tells it.turn.holder it.stream)
@@ -357,18 +352,18 @@ module _ (which : Standard) (owner : Owner) (own : Own) where
   buffer_fault on.Block at.Pollable it held = (it.stream, refl, kept_fault it.stream.trouble)
   buffer_fault (on.PollWrite piece) (at.Polled handle) it held =
       let poll = write_poll handle owner it.turn it.stream piece in
-      (poll.stream, refl, subst (λ answer. MayTellFault it.stream.trouble answer poll.stream.trouble) (sym (change_told own owner.number which handle poll.handle (poll_told told.Count poll.answer) held)) (poll_write_fault handle owner it.turn it.stream piece))
+      (poll.stream, refl, subst (λ answer. MayTellFault it.stream.trouble answer poll.stream.trouble) (sym (change_told own owner.number of which handle poll.handle (poll_told told.Count poll.answer) held)) (poll_write_fault handle owner it.turn it.stream piece))
   buffer_fault on.PollFlush (at.Polled handle) it held =
       let poll = flush_poll handle owner it.turn it.stream in
-      (poll.stream, refl, subst (λ answer. MayTellFault it.stream.trouble answer poll.stream.trouble) (sym (change_told own owner.number which handle poll.handle (poll_told is_done poll.answer) held)) (poll_flush_fault handle owner it.turn it.stream))
+      (poll.stream, refl, subst (λ answer. MayTellFault it.stream.trouble answer poll.stream.trouble) (sym (change_told own owner.number of which handle poll.handle (poll_told is_done poll.answer) held)) (poll_flush_fault handle owner it.turn it.stream))
   buffer_fault other at.Plain it held = (it.stream, refl, kept_fault it.stream.trouble)
   buffer_fault other (at.Polled handle) it held = (it.stream, refl, kept_fault it.stream.trouble)
   buffer_fault other at.Pollable it held = (it.stream, refl, kept_fault it.stream.trouble)
 
-  no_buffer_sends : (it : EntryCall) (e : StreamEntry) (s : OutStream) → nat_eq (sort_of s) 2 ≡ false → Keeps (Some (it, e)) (told_by it which owner e own s) (Some s) (Some (left_by it which owner e s))
-  no_buffer_sends it e s is so_far has = unsaid (left_by it which owner e s) (ap (λ n. nat_eq n 2) (sent_sort it which owner e s) ∙ is) _
+  no_buffer_sends : (it : EntryCall) (e : StreamEntry) (s : OutStream) → nat_eq (sort_of s) 2 ≡ false → Keeps (Some (it, e)) (told_by it of which owner e own s) (Some s) (Some (left_by it of which owner e s))
+  no_buffer_sends it e s is so_far has = unsaid (left_by it of which owner e s) (ap (λ n. nat_eq n 2) (sent_sort it of which owner e s) ∙ is) _
 
-  sends_keep : (it : EntryCall) (e : StreamEntry) (s : OutStream) → entry_at own owner.number ≡ Some (entry.Stream which e) → Keeps (Some (it, e)) (told_by it which owner e own s) (Some s) (Some (left_by it which owner e s))
+  sends_keep : (it : EntryCall) (e : StreamEntry) (s : OutStream) → entry_at own owner.number ≡ Some (entry.Stream of which e) → Keeps (Some (it, e)) (told_by it of which owner e own s) (Some s) (Some (left_by it of which owner e s))
   sends_keep it e (stream.Buffered w) held = buffer_keeps it e w held
   sends_keep it e (stream.Pipe pipe) held = no_buffer_sends it e (stream.Pipe pipe) refl
   sends_keep it e (stream.File out) held = no_buffer_sends it e (stream.File out) refl
@@ -376,7 +371,7 @@ module _ (which : Standard) (owner : Owner) (own : Own) where
   sends_keep it e stream.Closed held = no_buffer_sends it e stream.Closed refl
   sends_keep it e stream.Sink held = no_buffer_sends it e stream.Sink refl
 
-  sends_fault : (it : EntryCall) (e : StreamEntry) (s : OutStream) → entry_at own owner.number ≡ Some (entry.Stream which e) → FaultStep (holder_in (Some s)) (Some (it, e)) (told_by it which owner e own s) (buffer_in (Some s)) (buffer_in (Some (left_by it which owner e s)))
+  sends_fault : (it : EntryCall) (e : StreamEntry) (s : OutStream) → entry_at own owner.number ≡ Some (entry.Stream of which e) → FaultStep (holder_in (Some s)) (Some (it, e)) (told_by it of which owner e own s) (buffer_in (Some s)) (buffer_in (Some (left_by it of which owner e s)))
   sends_fault it e (stream.Buffered w) held = buffer_fault it e w held
   sends_fault it e (stream.Pipe pipe) held = tt
   sends_fault it e (stream.File out) held = tt
@@ -384,7 +379,7 @@ module _ (which : Standard) (owner : Owner) (own : Own) where
   sends_fault it e stream.Closed held = tt
   sends_fault it e stream.Sink held = tt
 
-  misses_keep : (it : EntryCall) (e : StreamEntry) → Keeps (Some (it, e)) (told_by it which owner e own stream.Closed) None None
+  misses_keep : (it : EntryCall) (e : StreamEntry) → Keeps (Some (it, e)) (told_by it of which owner e own stream.Closed) None None
   misses_keep (on.Write bytes) at.Plain = λ so_far none. append-nil so_far ∙ none
   misses_keep (on.PollWrite piece) (at.Polled handle) = λ so_far none. append-nil so_far ∙ none
   misses_keep on.Ready at.Pollable = λ so_far none. append-nil so_far ∙ none
@@ -412,9 +407,9 @@ each_keeps : HoldsOfEach Keeps
 each_keeps = record {
   keeps = λ answer o. no_more o;
   declares = new_keeps;
-  sends = λ it which at e own s held. sends_keep which at own it e s held;
+  sends = λ it of which at e own s held. sends_keep of which at own it e s held;
   leaves = leaves_keep;
-  misses = λ it which at e own. misses_keep which at own it e;
+  misses = λ it of which at e own. misses_keep of which at own it e;
   turns = λ s. turns_keep s (reply.Worked (output_turned s).told);
 }
 
@@ -445,9 +440,9 @@ each_fault : HoldsOfEach Faults
 each_fault = record {
   keeps = λ answer o. same_fault (holder_in o) answer (buffer_in o);
   declares = λ it answer. tt;
-  sends = λ it which at e own s held. sends_fault which at own it e s held;
+  sends = λ it of which at e own s held. sends_fault of which at own it e s held;
   leaves = leaves_fault;
-  misses = λ it which at e own. tt;
+  misses = λ it of which at e own. tt;
   turns = λ s. turns_fault s (reply.Worked (output_turned s).told);
 }
 

@@ -1,6 +1,8 @@
 -- What holds of what a guest owns and of the run's live numbers, and what keeps it: once for any entry and any deed.
-use Rattle.std.proofs.Common.{◌≡◌, ℕ, ◌+◌, ◌-◌, ◌≤◌, Bool, true, false, cond, Option, Some, None, refl, ap, ◌∙◌, sym, subst, true≢false}
-use Rattle.std.specs.Prelude.{eqb, nat_eq, is_some, not, ◌&&◌, ◌||◌}
+use Rattle.std.proofs.Common.{◌≡◌, ℕ, suc, ◌+◌, ◌-◌, ◌≤◌, Bool, true, false, cond, List, [], ◌∷◌, length, Option, Some, None, refl, ap, arith, ◌∙◌, sym, subst, true≢false}
+use Rattle.std.proofs.lemmas.Bool.Decides.{nat_tests}
+use Rattle.std.specs.Prelude.{eqb, nat_eq, nat_lt, is_some, not, ◌&&◌, ◌||◌}
+use Rattle.std.specs.List.{list_all}
 use Rattle.std.proofs.lemmas.Bool.{eqb-true, cond-true, cond-false}
 use Rattle.std.specs.Ordering.{nat_cmp}
 use Rattle.std.specs.Cmp.{nat_cmp_total}
@@ -8,7 +10,7 @@ use Rattle.std.specs.FinMap as map
 use Rattle.std.specs.FinSet.{FinSet, empty, contains, insert, remove, len, contains-empty, contains-insert, contains-remove, len-empty, len-insert, len-remove}
 use Rattle.wasi_base.specs.declared.trap_text.TrapText.TheVariants.{ResourceWrongType, ResourceHasChildren, ResourceTableFull}
 use Rattle.wasi_table.specs.declared.error.TableError.TheVariants.{Full}
-use Rattle.wasi_table.specs.Table.{Held, held_at, is_live, live_count, new_table, next_number, with_pushed, without, push_refusal, parent_in, entry_in, has_children}
+use Rattle.wasi_table.specs.Table.{Table, Held, held_at, is_live, live_count, new_table, next_number, with_pushed, without, push_refusal, parent_in, entry_in, has_children}
 use Rattle.wasi_table.specs.laws.Children.{has_child}
 use Rattle.wasi_table.specs.Sound.{IsTable}
 use Rattle.wasi_table.specs.laws.Kept.{held-insert, held-remove, held-next_number, is_eq-nat_cmp, live_count-pushed, new_table-IsTable, pushed-IsTable, without-IsTable, with_entry-IsTable}
@@ -25,24 +27,24 @@ use Rattle.wasi_host.specs.declared.entry.StreamEntry.TheVariants as stream
 use Rattle.wasi_host.specs.declared.entry.OwnEntry.TheVariants as kept
 use Rattle.wasi_clocks.specs.declared.deadlines.Deadline.{Deadline}
 use Rattle.wasi_host.specs.declared.deed.Deed.{Deed}
-use Rattle.wasi_host.specs.declared.deed.Deed.TheVariants.{Tell, Make, Change}
+use Rattle.wasi_host.specs.declared.deed.Deed.TheVariants.{Tell, Make, MakeEach, Change}
 use Rattle.wasi_script.specs.declared.lines.Standard.{Standard}
 use Rattle.wasi_cli.specs.declared.stdout_handle.StdoutHandle.{StdoutHandle}
-use Rattle.wasi_host.specs.Deeds.{Own, Done, only_told, trapped, entry_at, stands_alone, goes_under, may_make, may_change, made, with_kept, act, dropped_at}
-use Rattle.wasi_host.specs.Run.{dropped_by, live_after}
+use Rattle.wasi_host.specs.Deeds.{Own, Done, only_told, trapped, entry_at, stands_alone, goes_under, may_make, may_change, made, handles_made, with_each, each_made, with_kept, act, dropped_at}
+use Rattle.wasi_host.specs.Run.{dropped_by, also_live, live_after}
 
 -- ---- which entries stand where
 -- nothing stands under a number that is not live
 under_none : (it : Entry) → goes_under it None ≡ false
 under_none (entry.Shared (shared.Pollable wait)) = refl
-under_none (entry.Stream to stream.Pollable) = refl
+under_none (entry.Stream of to stream.Pollable) = refl
 under_none other = refl
 
 -- an entry in place of one of its sort stands where that one stood, and under it stands what stood under that one
 again_alone : (old new : Entry) → may_change (Some old) new ≡ true → stands_alone new ≡ stands_alone old
 again_alone (entry.Shared (shared.Polled old)) (entry.Shared (shared.Polled new)) e = refl
 again_alone (entry.Shared (shared.Pollable old)) (entry.Shared (shared.Pollable new)) e = refl
-again_alone (entry.Stream to (stream.Polled old)) (entry.Stream on (stream.Polled new)) e = refl
+again_alone (entry.Stream of to (stream.Polled old)) (entry.Stream of' on (stream.Polled new)) e = refl
 again_alone (entry.Own (kept.Deadline old)) (entry.Own (kept.Deadline new)) e = refl
 again_alone old new e = absurd (true≢false (sym e))
 
@@ -51,35 +53,35 @@ again_under (entry.Shared (shared.Polled old)) (entry.Shared (shared.Polled new)
 again_under (entry.Shared (shared.Pollable old)) (entry.Shared (shared.Pollable new)) None e = refl
 again_under (entry.Shared (shared.Pollable old)) (entry.Shared (shared.Pollable new)) (Some (entry.Shared shared.Reader)) e = refl
 again_under (entry.Shared (shared.Pollable old)) (entry.Shared (shared.Pollable new)) (Some other) e = refl
-again_under (entry.Stream to (stream.Polled old)) (entry.Stream on (stream.Polled new)) o e = refl
+again_under (entry.Stream of to (stream.Polled old)) (entry.Stream of' on (stream.Polled new)) o e = refl
 again_under (entry.Own (kept.Deadline old)) (entry.Own (kept.Deadline new)) o e = refl
 again_under old new o e = absurd (true≢false (sym e))
 
 pub none_polled : (child : Entry) (wait : Option ℕ) → goes_under child (Some (entry.Shared (shared.Polled wait))) ≡ false
 none_polled (entry.Shared (shared.Pollable w)) wait = refl
-none_polled (entry.Stream to stream.Pollable) wait = refl
+none_polled (entry.Stream of to stream.Pollable) wait = refl
 none_polled other wait = refl
 
 pub none_pollable : (child : Entry) (wait : Option ℕ) → goes_under child (Some (entry.Shared (shared.Pollable wait))) ≡ false
 none_pollable (entry.Shared (shared.Pollable w)) wait = refl
-none_pollable (entry.Stream to stream.Pollable) wait = refl
+none_pollable (entry.Stream of to stream.Pollable) wait = refl
 none_pollable other wait = refl
 
-none_handle : (child : Entry) (to : Standard) (handle : StdoutHandle) → goes_under child (Some (entry.Stream to (stream.Polled handle))) ≡ false
-none_handle (entry.Shared (shared.Pollable w)) to handle = refl
-none_handle (entry.Stream on stream.Pollable) to handle = refl
-none_handle other to handle = refl
+none_handle : (child : Entry) (of : Option ℕ) (to : Standard) (handle : StdoutHandle) → goes_under child (Some (entry.Stream of to (stream.Polled handle))) ≡ false
+none_handle (entry.Shared (shared.Pollable w)) of to handle = refl
+none_handle (entry.Stream of' on stream.Pollable) of to handle = refl
+none_handle other of to handle = refl
 
 none_deadline : (child : Entry) (it : Deadline) → goes_under child (Some (entry.Own (kept.Deadline it))) ≡ false
 none_deadline (entry.Shared (shared.Pollable w)) it = refl
-none_deadline (entry.Stream to stream.Pollable) it = refl
+none_deadline (entry.Stream of to stream.Pollable) it = refl
 none_deadline other it = refl
 
 -- nothing stands under entries that are changed
 pub changed_alone : (old new child : Entry) → may_change (Some old) new ≡ true → (goes_under child (Some old) ≡ false) × (goes_under child (Some new) ≡ false)
 changed_alone (entry.Shared (shared.Polled old)) (entry.Shared (shared.Polled new)) child e = (none_polled child old, none_polled child new)
 changed_alone (entry.Shared (shared.Pollable old)) (entry.Shared (shared.Pollable new)) child e = (none_pollable child old, none_pollable child new)
-changed_alone (entry.Stream to (stream.Polled old)) (entry.Stream on (stream.Polled new)) child e = (none_handle child to old, none_handle child on new)
+changed_alone (entry.Stream of to (stream.Polled old)) (entry.Stream of' on (stream.Polled new)) child e = (none_handle child of to old, none_handle child of' on new)
 changed_alone (entry.Own (kept.Deadline old)) (entry.Own (kept.Deadline new)) child e = (none_deadline child old, none_deadline child new)
 changed_alone old new child e = absurd (true≢false (sym e))
 
@@ -166,6 +168,48 @@ own_pushed own live it parent is may room =
       count = len-insert nat_cmp_total live n ∙ cond-false (contains live n) _ _ (is.members n ∙ free) ∙ ap (λ k. k + 1) is.count ∙ sym (live_count-pushed t it parent is.table);
     }
 
+-- ---- new entries, one after the other
+not_full : (count more capacity : ℕ) → count + suc more ≤ capacity → nat_eq count capacity ≡ false
+not_full count more capacity room = grind (arith, nat_tests)
+
+room_after : (count now more capacity : ℕ) → now ≡ count + 1 → count + suc more ≤ capacity → now + more ≤ capacity
+room_after count now more capacity is room = omega (arith, is, room)
+
+pub within_room : (capacity count : ℕ) → nat_lt capacity count ≡ false → count ≤ capacity
+within_room capacity count e = grind (arith, nat_tests)
+
+pub first_alone : (a b : Bool) → (a && b) ≡ true → a ≡ true
+first_alone true b e = refl
+first_alone false b e = absurd (true≢false (sym e))
+
+pub rest_alone : (a b : Bool) → (a && b) ≡ true → b ≡ true
+rest_alone true b e = e
+rest_alone false b e = absurd (true≢false (sym e))
+
+abbrev pub AllAlone : List (Entry × List ℕ) → Type 0
+AllAlone them = list_all (λ (it : Entry × List ℕ). stands_alone it.0) them ≡ true
+
+abbrev pub HasRoom : List (Entry × List ℕ) → Own → Type 0
+HasRoom them own = live_count own.table + length them ≤ own.table.capacity
+
+-- the first of them, and the room that it leaves
+pub one_pushed : (own : Own) (live : FinSet nat_cmp) (it : Entry × List ℕ) (rest : List (Entry × List ℕ)) → IsOwn own live → AllAlone (it ∷ rest) → HasRoom (it ∷ rest) own → IsOwn (record { table = with_pushed own.table it.0 None }) (insert live (next_number own.table))
+one_pushed own live it rest is alone room =
+    let may = first_alone (stands_alone it.0) _ alone in
+    own_pushed own live it.0 None is may (push_goes own it.0 None may (not_full (live_count own.table) (length rest) own.table.capacity room))
+
+pub room_left : (own : Own) (live : FinSet nat_cmp) (it : Entry × List ℕ) (rest : List (Entry × List ℕ)) → IsOwn own live → HasRoom (it ∷ rest) own → HasRoom rest (record { table = with_pushed own.table it.0 None })
+room_left own live it rest is room = room_after (live_count own.table) (live_count (with_pushed own.table it.0 None)) (length rest) own.table.capacity (live_count-pushed own.table it.0 None is.table) room
+
+each_pushed : (them : List (Entry × List ℕ)) (own : Own) (live : FinSet nat_cmp) → IsOwn own live → AllAlone them → HasRoom them own → IsOwn (record { table = with_each them own.table }) (also_live (handles_made them own.table) live)
+each_pushed [] own live is alone room = is
+each_pushed (it ∷ rest) own live is alone room =
+    each_pushed rest (record { table = with_pushed own.table it.0 None }) (insert live (next_number own.table)) (one_pushed own live it rest is alone room) (rest_alone (stands_alone it.0) _ alone) (room_left own live it rest is room)
+
+pub each_capacity : (them : List (Entry × List ℕ)) (table : Table Entry) → (with_each them table).capacity ≡ table.capacity
+each_capacity [] table = refl
+each_capacity (it ∷ rest) table = each_capacity rest (with_pushed table it.0 None)
+
 -- ---- another entry in place of one of its sort
 kept_under : (b : Bool) (child : Entry) (now old : Held Entry) (o : Option (Held Entry)) → (b ≡ true → o ≡ Some old) → goes_under child (Some old.entry) ≡ false → goes_under child (entry_in o) ≡ true → goes_under child (entry_in (cond b (Some now) o)) ≡ true
 kept_under true child now old o is none goes = absurd (true≢false (sym goes ∙ ap (λ o. goes_under child (entry_in o)) (is refl) ∙ none))
@@ -212,11 +256,13 @@ own_dropped own live n held is there childless =
 -- ---- any deed, and a drop: the live numbers follow the reply, the capacity stays, and nobody is told that it ended before
 abbrev pub live_by : Reply → FinSet nat_cmp → FinSet nat_cmp
 live_by (reply.Handle n) live = insert live n
+live_by (reply.Directories rows) live = also_live rows live
 live_by other live = live
 
 -- of a call that is no drop
 pub live_is : (c : Call) (it : Reply) (live : FinSet nat_cmp) → dropped_by c live ≡ live → live_after c it live ≡ live_by it live
 live_is c (reply.Handle n) live e = refl
+live_is c (reply.Directories rows) live e = refl
 live_is c (reply.Told told.Ok) live e = e
 live_is c other live e = refl
 
@@ -236,6 +282,10 @@ told_on it e = true≢false (sym (ap is_ended e))
 handle_on : (n : ℕ) → reply.Handle n ≡ reply.Ended → ⊥
 unfolding is_ended
 handle_on n e = true≢false (sym (ap is_ended e))
+
+directories_on : (rows : List (ℕ × List ℕ)) → reply.Directories rows ≡ reply.Ended → ⊥
+unfolding is_ended
+directories_on rows e = true≢false (sym (ap is_ended e))
 
 module _ (own : Own) (live : FinSet nat_cmp) (is : IsOwn own live) where
   stays : (it : Told) → Follows own live (only_told it own)
@@ -258,6 +308,15 @@ module _ (own : Own) (live : FinSet nat_cmp) (is : IsOwn own live) where
     where
       by : (may : Bool) → may_make it parent own ≡ may → let done : Done = cond may (made it parent own) (trapped ResourceWrongType own) in Follows own (live_by done.reply live) done
       by true e = makes it parent e
+      by false e = stays (told.Trap ResourceWrongType)
+  acts (MakeEach them) = by (list_all (λ (it : Entry × List ℕ). stands_alone it.0) them) refl
+    where
+      by_room : (over : Bool) → nat_lt own.table.capacity (live_count own.table + length them) ≡ over → AllAlone them → let done : Done = cond over (trapped ResourceTableFull own) (record { reply = reply.Directories (handles_made them own.table); own = record { table = with_each them own.table } }) in Follows own (live_by done.reply live) done
+      by_room true e alone = stays (told.Trap ResourceTableFull)
+      by_room false e alone = record { own_is = each_pushed them own live is alone (within_room own.table.capacity (live_count own.table + length them) e); capacity = each_capacity them own.table; goes_on = directories_on (handles_made them own.table) }
+
+      by : (alone : Bool) → list_all (λ (it : Entry × List ℕ). stands_alone it.0) them ≡ alone → let done : Done = cond alone (each_made them own) (trapped ResourceWrongType own) in Follows own (live_by done.reply live) done
+      by true e = by_room (nat_lt own.table.capacity (live_count own.table + length them)) refl e
       by false e = stays (told.Trap ResourceWrongType)
   acts (Change n it answer) = by (may_change (entry_at own n) it) refl
     where

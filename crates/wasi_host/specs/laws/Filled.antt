@@ -31,10 +31,10 @@ use Rattle.wasi_host.specs.laws.Walk.{HoldsOfEach, left_by, told_by, step_holds}
 abbrev direct_in : Option OutStream → Option (List ℕ)
 direct_in o = option_and_then direct_taken o
 
-abbrev goes_out : ℕ → Bool
-goes_out sort = nat_eq sort 1 || nat_eq sort 3
+abbrev is_direct_sort : ℕ → Bool
+is_direct_sort n = nat_eq n 1 || nat_eq n 3
 
-direct_by : (s : OutStream) → is_direct s ≡ goes_out (sort_of s)
+direct_by : (s : OutStream) → is_direct s ≡ is_direct_sort (sort_of s)
 direct_by (stream.Pipe pipe) = refl
 direct_by (stream.File out) = refl
 direct_by (stream.Stdio out) = refl
@@ -54,19 +54,19 @@ new_fills (declared_out.File room plan) answer = inr refl
 new_fills (declared_out.Stdio room plan) answer = inr refl
 new_fills (declared_out.Buffered room plan budget) answer = inl refl
 
-sends_fill : (it : EntryCall) (which : Standard) (at : Owner) (e : StreamEntry) (own : Own) (s : OutStream) → entry_at own at.number ≡ Some (entry.Stream which e) → FillsIn (Some (it, e)) (told_by it which at e own s) (Some s) (Some (left_by it which at e s))
-sends_fill it which at e own s held = by (is_direct s) refl
+sends_fill : (it : EntryCall) (of : Option ℕ) (which : Standard) (at : Owner) (e : StreamEntry) (own : Own) (s : OutStream) → entry_at own at.number ≡ Some (entry.Stream of which e) → FillsIn (Some (it, e)) (told_by it of which at e own s) (Some s) (Some (left_by it of which at e s))
+sends_fill it of which at e own s held = by (is_direct s) refl
   where
     left : OutStream
-    left = left_by it which at e s
+    left = left_by it of which at e s
 
-    by : (b : Bool) → is_direct s ≡ b → Fills (Some (it, e)) (told_by it which at e own s) (direct_taken s) (direct_taken left)
+    by : (b : Bool) → is_direct s ≡ b → Fills (Some (it, e)) (told_by it of which at e own s) (direct_taken s) (direct_taken left)
     by true is =
-        let kept = outputs_keep it which at e s own is in
-        subst (λ b. Fills (Some (it, e)) (told_by it which at e own s) (cond b (Some (taken_of s)) None) (direct_taken left)) (sym is) (taken_of left, ap (λ b. cond b (Some (taken_of left)) None) kept.direct, kept.took)
+        let kept = outputs_keep it of which at e s own is in
+        subst (λ b. Fills (Some (it, e)) (told_by it of which at e own s) (cond b (Some (taken_of s)) None) (direct_taken left)) (sym is) (taken_of left, ap (λ b. cond b (Some (taken_of left)) None) kept.direct, kept.took)
     by false is =
-        let none : is_direct left ≡ false = direct_by left ∙ ap goes_out (sent_sort it which at e s) ∙ sym (direct_by s) ∙ is in
-        subst (λ b. Fills (Some (it, e)) (told_by it which at e own s) (cond b (Some (taken_of s)) None) (direct_taken left)) (sym is) (inl (ap (λ b. cond b (Some (taken_of left)) None) none))
+        let none : is_direct left ≡ false = direct_by left ∙ ap is_direct_sort (sent_sort it of which at e s) ∙ sym (direct_by s) ∙ is in
+        subst (λ b. Fills (Some (it, e)) (told_by it of which at e own s) (cond b (Some (taken_of s)) None) (direct_taken left)) (sym is) (inl (ap (λ b. cond b (Some (taken_of left)) None) none))
 
 turns_fill : (s : OutStream) (answer : Reply) → FillsIn None answer (Some s) (Some (output_turned s).left)
 turns_fill (stream.Buffered writer) answer = inl refl
@@ -89,7 +89,7 @@ each_fills = record {
   keeps = λ answer o. still answer (direct_in o);
   declares = new_fills;
   sends = sends_fill;
-  misses = λ it which at e own. inl refl;
+  misses = λ it of which at e own. inl refl;
   leaves = leaves_fill;
   turns = λ s. turns_fill s (reply.Worked (output_turned s).told);
 }

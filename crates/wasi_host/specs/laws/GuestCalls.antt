@@ -1,8 +1,9 @@
 -- The host follows the run's rules: a call of any guest.
-use Rattle.std.proofs.Common.{◌≡◌, ℕ, Bool, true, false, cond, List, [], ◌++◌, Option, Some, None, refl, ap, ◌∙◌, sym, subst, true≢false, append-nil}
-use Rattle.std.specs.Prelude.{nat_eq}
+use Rattle.std.proofs.Common.{◌≡◌, ℕ, ◌+◌, length, ◌∷◌, Bool, true, false, cond, List, [], ◌++◌, Option, Some, None, refl, ap, ◌∙◌, sym, subst, true≢false, append-nil}
+use Rattle.std.specs.Prelude.{nat_eq, nat_lt, ◌||◌}
+use Rattle.std.specs.List.{list_all, list_any}
 use Rattle.std.specs.Ordering.{nat_cmp}
-use Rattle.std.specs.FinSet.{FinSet, empty}
+use Rattle.std.specs.FinSet.{FinSet, empty, insert}
 use Rattle.wasi_base.specs.Source.{Told}
 use Rattle.wasi_base.specs.declared.trap_text.TrapText.TheVariants.{ResourceNotPresent, ResourceWrongType, ResourceTableFull}
 use Rattle.wasi_table.specs.Table.{Held, new_table, held_at, entry_in, parent_in, live_count, next_number, with_pushed}
@@ -32,15 +33,17 @@ use Rattle.wasi_host.specs.declared.entry.OwnEntry.TheVariants as kept
 use Rattle.wasi_host.specs.declared.stream.InStream.{InStream}
 use Rattle.wasi_host.specs.declared.stream.OutStream.{OutStream}
 use Rattle.wasi_host.specs.declared.deed.Deed.{Deed}
-use Rattle.wasi_host.specs.declared.deed.Deed.TheVariants.{Tell, Make, Change}
-use Rattle.wasi_host.specs.Deeds.{Own, Done, only_told, trapped, entry_at, may_make, may_change, made, with_kept, act, dropped, is_shared, apart}
+use Rattle.wasi_host.specs.declared.deed.Deed.TheVariants.{Tell, Make, MakeEach, Change}
+use Rattle.wasi_host.specs.Contexts.{ByContext, at_context, put_context}
+use Rattle.wasi_host.specs.Deeds.{Own, Done, only_told, trapped, entry_at, stands_alone, may_make, may_change, made, handles_made, with_each, each_made, with_kept, act, dropped, is_shared, apart}
 use Rattle.wasi_host.specs.Calls.{Doing, doing, opened, opened_terminal, asked, called, sent, awaited, owned as own_deed, shared_entry, stream_entry}
 use Rattle.wasi_host.specs.Clocks.{Clocks}
 use Rattle.wasi_host.specs.Random.{Sources, Drawn, drawn}
-use Rattle.wasi_host.specs.Host.{Guest, Streams, the_calls, Answered, settled, left_guest, on_sources, leave_entry, answer_at, answer_to, answer_by, input_at, put_input, output_at, put_output}
+use Rattle.wasi_host.specs.Host.{Guest, Streams, the_calls, Answered, settled, left_guest, on_sources, put_tree, leave_entry, answer_at, answer_to, answer_by, input_at, put_input, output_at, put_output}
 use Rattle.wasi_host.specs.Run.{Standing, Sharing, at_number, without_guest, dropped_by, live_after, left_by, EntryRule, entry_bytes, CallRule, OpenRule, DropRule, EndedRule, call_bytes}
 use Rattle.wasi_host.specs.Run as run
-use Rattle.wasi_host.specs.laws.Entries.{IsOwn, own_left, Follows, acts, drops, live_is}
+use Rattle.wasi_host.specs.laws.Entries.{IsOwn, own_left, Follows, AllAlone, HasRoom, one_pushed, room_left, within_room, rest_alone, acts, drops, live_is}
+use Rattle.wasi_host.specs.laws.OnTrees.{OnTree, descriptor_on, pair_on}
 use Rattle.wasi_host.specs.laws.Shown.{standing_by, standing_at, standing_in, standing_kept, standing_with, shares_in, capacity_in, ended_in, shown, cond_same, with_own, put_alike, put_same, nothing_stands, stands_there, standing_pushed, shown_put}
 use Rattle.wasi_host.specs.laws.SharedCalls.{Called, called_by, Does, none_handed, entry_does, open_does, drop_does}
 
@@ -52,7 +55,7 @@ apart_none other parent e = refl
 stays_apart : (old new : Entry) → may_change (Some old) new ≡ true → is_shared new ≡ false → is_shared old ≡ false
 stays_apart (entry.Shared (on.Polled a)) (entry.Shared (on.Polled b)) e none = none
 stays_apart (entry.Shared (on.Pollable a)) (entry.Shared (on.Pollable b)) e none = none
-stays_apart (entry.Stream to (stream.Polled a)) (entry.Stream at (stream.Polled b)) e none = refl
+stays_apart (entry.Stream of to (stream.Polled a)) (entry.Stream of' at (stream.Polled b)) e none = refl
 stays_apart (entry.Own (kept.Deadline a)) (entry.Own (kept.Deadline b)) e none = refl
 stays_apart old new e none = absurd (true≢false (sym e))
 
@@ -63,16 +66,33 @@ kept_still own n it (Some held) there change none m =
     ∙ ap (λ o. cond (nat_eq m n) o (standing_in own m)) (apart_none it held.parent none)
     ∙ cond_same (standing_in own) m n None (ap standing_at there ∙ apart_none held.entry held.parent (stays_apart held.entry it change none))
 
+pushed_still : (own : Own) (live : FinSet nat_cmp) → IsOwn own live → (it : Entry) (parent : Option ℕ) → is_shared it ≡ false → (m : ℕ) → standing_in (record { table = with_pushed own.table it parent }) m ≡ standing_in own m
+pushed_still own live is it parent e m =
+    standing_pushed own it parent m
+    ∙ ap (λ o. cond (nat_eq m (next_number own.table)) o (standing_in own m)) (apart_none it parent e)
+    ∙ cond_same (standing_in own) m (next_number own.table) None (ap standing_at (held-next_number own.table is.table))
+
+first_apart : (a b : Bool) → (a || b) ≡ false → a ≡ false
+first_apart true b e = absurd (true≢false e)
+first_apart false b e = refl
+
+rest_apart : (a b : Bool) → (a || b) ≡ false → b ≡ false
+rest_apart true b e = absurd (true≢false e)
+rest_apart false b e = e
+
+each_still : (them : List (Entry × List ℕ)) (own : Own) (live : FinSet nat_cmp) → IsOwn own live → AllAlone them → HasRoom them own → list_any (λ (it : Entry × List ℕ). is_shared it.0) them ≡ false → (m : ℕ) → standing_in (record { table = with_each them own.table }) m ≡ standing_in own m
+each_still [] own live is alone room e m = refl
+each_still (it ∷ rest) own live is alone room e m =
+    each_still rest (record { table = with_pushed own.table it.0 None }) (insert live (next_number own.table)) (one_pushed own live it rest is alone room) (rest_alone (stands_alone it.0) _ alone) (room_left own live it rest is room) (rest_apart (is_shared it.0) _ e) m
+    ∙ pushed_still own live is it.0 None (first_apart (is_shared it.0) (list_any (λ (it : Entry × List ℕ). is_shared it.0) rest) e) m
+
 module _ (own : Own) (live : FinSet nat_cmp) (is : IsOwn own live) where
   made_still : (it : Entry) (parent : Option ℕ) → is_shared it ≡ false → (m : ℕ) → standing_in (made it parent own).own m ≡ standing_in own m
   made_still it parent e m = pushed (nat_eq (live_count own.table) own.table.capacity)
     where
       pushed : (full : Bool) → standing_in (cond full (trapped ResourceTableFull own) (record { reply = reply.Handle (next_number own.table); own = record { table = with_pushed own.table it parent } })).own m ≡ standing_in own m
       pushed true = refl
-      pushed false =
-          standing_pushed own it parent m
-          ∙ ap (λ o. cond (nat_eq m (next_number own.table)) o (standing_in own m)) (apart_none it parent e)
-          ∙ cond_same (standing_in own) m (next_number own.table) None (ap standing_at (held-next_number own.table is.table))
+      pushed false = pushed_still own live is it parent e m
 
   make_still : (it : Entry) (parent : Option ℕ) → is_shared it ≡ false → (m : ℕ) → standing_in (act (Make it parent) own).own m ≡ standing_in own m
   make_still it parent e m = may (may_make it parent own)
@@ -88,6 +108,19 @@ module _ (own : Own) (live : FinSet nat_cmp) (is : IsOwn own live) where
       by : (b : Bool) → is_shared it ≡ b → standing_in (act (cond b (Tell (tell.Trap ResourceWrongType)) (Make it parent)) own).own m ≡ standing_in own m
       by true e = refl
       by false e = make_still it parent e m
+  stands_still (MakeEach them) m = by (list_any (λ (it : Entry × List ℕ). is_shared it.0) them) refl
+    where
+      by_room : (over : Bool) → nat_lt own.table.capacity (live_count own.table + length them) ≡ over → AllAlone them → list_any (λ (it : Entry × List ℕ). is_shared it.0) them ≡ false → standing_in (cond over (trapped ResourceTableFull own) (record { reply = reply.Directories (handles_made them own.table); own = record { table = with_each them own.table } })).own m ≡ standing_in own m
+      by_room true e alone none = refl
+      by_room false e alone none = each_still them own live is alone (within_room own.table.capacity (live_count own.table + length them) e) none m
+
+      may : (alone : Bool) → list_all (λ (it : Entry × List ℕ). stands_alone it.0) them ≡ alone → list_any (λ (it : Entry × List ℕ). is_shared it.0) them ≡ false → standing_in (cond alone (each_made them own) (trapped ResourceWrongType own)).own m ≡ standing_in own m
+      may true e none = by_room (nat_lt own.table.capacity (live_count own.table + length them)) refl e none
+      may false e none = refl
+
+      by : (b : Bool) → list_any (λ (it : Entry × List ℕ). is_shared it.0) them ≡ b → standing_in (act (cond b (Tell (tell.Trap ResourceWrongType)) (MakeEach them)) own).own m ≡ standing_in own m
+      by true e = refl
+      by false e = may (list_all (λ (it : Entry × List ℕ). stands_alone it.0) them) refl e
   stands_still (Change n it answer) m = by (is_shared it) refl
     where
       may : (b : Bool) → may_change (entry_at own n) it ≡ b → is_shared it ≡ false → standing_in (cond b (record { reply = reply.Told answer; own = with_kept own n it }) (trapped ResourceWrongType own)).own m ≡ standing_in own m
@@ -163,22 +196,22 @@ left_owned true guest own l is = record { own = own_left own l is; fresh = λ e.
 left_owned false guest own l is = record { own = is; fresh = λ e. absurd (true≢false e) }
 
 -- a guest that has other random sources has what it had, and shows what it showed
-owned_again : (b : Bool) (guest : Guest) (sources : Sources) (o : Option Guest) (l : FinSet nat_cmp) → OwnedBy (cond b (Some guest) o) l → OwnedBy (cond b (Some (record guest { sources = sources })) o) l
+owned_again : (b : Bool) (guest : Guest) (sources : ByContext Sources) (o : Option Guest) (l : FinSet nat_cmp) → OwnedBy (cond b (Some guest) o) l → OwnedBy (cond b (Some (record guest { sources = sources })) o) l
 owned_again true guest sources o l is = record { own = is.own; fresh = is.fresh }
 owned_again false guest sources o l is = is
 
-sources_apart : (front : List ℕ) (shared : Shared) (guests : ℕ → Option Guest) (live : ℕ → FinSet nat_cmp) (told : Told) (g : ℕ) (guest : Guest) (sources : Sources) → shown front shared (at_number guests g (Some guest)) live told ≡ shown front shared (at_number guests g (Some (record guest { sources = sources }))) live told
+sources_apart : (front : List ℕ) (shared : Shared) (guests : ℕ → Option Guest) (live : ℕ → FinSet nat_cmp) (told : Told) (g : ℕ) (guest : Guest) (sources : ByContext Sources) → shown front shared (at_number guests g (Some guest)) live told ≡ shown front shared (at_number guests g (Some (record guest { sources = sources }))) live told
 sources_apart front shared guests live told g guest sources = shown_put front shared guests live told g guest ∙ sym (shown_put front shared guests live told g (record guest { sources = sources }))
 
-module _ (input front : List ℕ) (shared : Shared) (guests : ℕ → Option Guest) (live : ℕ → FinSet nat_cmp) (told : Told) (g : ℕ) (guest : Guest) (goes_on : guest.ended ≡ false) (there : guests g ≡ Some guest) (is : IsGuest guest (live g)) (owned : (m : ℕ) → OwnedBy (guests m) (live m)) (sound : IsSound shared) (input_is : input ≡ front ++ (shared.held ++ told.left)) where
+module _ (input front : List ℕ) (shared : Shared) (guests : ℕ → Option Guest) (live : ℕ → FinSet nat_cmp) (told : Told) (g : ℕ) (of : Option ℕ) (guest : Guest) (goes_on : guest.ended ≡ false) (there : guests g ≡ Some guest) (is : IsGuest guest (live g)) (owned : (m : ℕ) → OwnedBy (guests m) (live m)) (sound : IsSound shared) (input_is : input ≡ front ++ (shared.held ++ told.left)) where
   abbrev now : Sharing
   now = shown front shared guests live told
 
   abbrev Goes : Call → Answered → Type 0
-  Goes c done = Next input front shared guests live told (λ s. call_bytes false c input s g done.reply) (λ s s'. EndedRule false c input s g done.reply s') done.shared (at_number guests g (Some done.guest)) told
+  Goes c done = Next input front shared guests live told (λ s. call_bytes false c input s g done.reply) (λ s s'. EndedRule false c input s g of done.reply s') done.shared (at_number guests g (Some done.guest)) told
 
   -- a call whose entry's rule is known: the live numbers follow its reply, and the guest ends where that ends it
-  goes : (c : Call) (done : Called) (handed : Reply → List ℕ) (streams : Streams) → Follows guest.own (live_after c done.reply (live g)) (record { reply = done.reply; own = done.own }) → Does input front shared guests live told g guest done handed (λ answer s'. CallRule c input now g answer s') → handed done.reply ≡ call_bytes false c input now g done.reply → Goes c (settled guest (record { reply = done.reply; own = done.own }) done.left streams)
+  goes : (c : Call) (done : Called) (handed : Reply → List ℕ) (streams : Streams) → Follows guest.own (live_after c done.reply (live g)) (record { reply = done.reply; own = done.own }) → Does input front shared guests live told g guest done handed (λ answer s'. CallRule c input now g of answer s') → handed done.reply ≡ call_bytes false c input now g done.reply → Goes c (settled guest (record { reply = done.reply; own = done.own }) done.left streams)
   goes c done handed streams follows does same =
       let b = ends done.reply in
       let l = live_after c done.reply (live g) in
@@ -194,7 +227,7 @@ module _ (input front : List ℕ) (shared : Shared) (guests : ℕ → Option Gue
       }
 
   -- a call that asks nothing of the shared input
-  other : (c : Call) (done : Done) (streams : Streams) → Follows guest.own (live_after c done.reply (live g)) done → ((m : ℕ) → standing_in done.own m ≡ standing_in guest.own m) → ((s' : Sharing) → s' ≡ now → CallRule c input now g done.reply s') → call_bytes false c input now g done.reply ≡ [] → Goes c (settled guest done shared streams)
+  other : (c : Call) (done : Done) (streams : Streams) → Follows guest.own (live_after c done.reply (live g)) done → ((m : ℕ) → standing_in done.own m ≡ standing_in guest.own m) → ((s' : Sharing) → s' ≡ now → CallRule c input now g of done.reply s') → call_bytes false c input now g done.reply ≡ [] → Goes c (settled guest done shared streams)
   other c done streams follows same rule none =
       goes c (record { reply = done.reply; own = done.own; left = shared }) none_handed streams (record { own_is = follows.own_is; capacity = follows.capacity; goes_on = follows.goes_on })
       (record {
@@ -216,23 +249,23 @@ module _ (input front : List ℕ) (shared : Shared) (guests : ℕ → Option Gue
   standing_there n = ap (λ (standing : ℕ → Option Standing). standing n) (stands_there guests g guest there)
 
   -- ---- a guest opens a standard stream
-  stream_opens : (it : Standard) (how : Access) (streams : Streams) → ((s' : Sharing) → s' ≡ now → (answer : Reply) → CallRule (call.Open it how) input now g answer s') → Goes (call.Open it how) (settled guest (act (Make (entry.Stream it (stream_entry how)) None) guest.own) shared streams)
+  stream_opens : (it : Standard) (how : Access) (streams : Streams) → ((s' : Sharing) → s' ≡ now → (answer : Reply) → CallRule (call.Open it how) input now g of answer s') → Goes (call.Open it how) (settled guest (act (Make (entry.Stream of it (stream_entry how)) None) guest.own) shared streams)
   stream_opens it how streams rule =
-      let deed = Make (entry.Stream it (stream_entry how)) None in
-      other (call.Open it how) (act deed guest.own) streams (follow (call.Open it how) deed (λ live. refl)) (make_still guest.own (live g) is.own (entry.Stream it (stream_entry how)) None refl) (λ s' e. rule s' e (act deed guest.own).reply) refl
+      let deed = Make (entry.Stream of it (stream_entry how)) None in
+      other (call.Open it how) (act deed guest.own) streams (follow (call.Open it how) deed (λ live. refl)) (make_still guest.own (live g) is.own (entry.Stream of it (stream_entry how)) None refl) (λ s' e. rule s' e (act deed guest.own).reply) refl
 
-  shared_opens : (how : Access) (streams : Streams) → now.shares g ≡ true → Goes (call.Open standard.Input how) (settled guest (act (Make (entry.Shared (shared_entry how)) None) guest.own) shared streams)
+  shared_opens : (how : Access) (streams : Streams) → now.shares g of ≡ true → Goes (call.Open standard.Input how) (settled guest (act (Make (entry.Shared (shared_entry how)) None) guest.own) shared streams)
   shared_opens how streams sharing =
       let deed = Make (entry.Shared (shared_entry how)) None in
       goes (call.Open standard.Input how) (called_by guest.own (doing deed shared)) none_handed streams (let after = follow (call.Open standard.Input how) deed (λ live. refl) in record { own_is = after.own_is; capacity = after.capacity; goes_on = after.goes_on })
       (subst (λ b. Does input front shared guests live told g guest (called_by guest.own (doing deed shared)) none_handed (λ answer s'. OpenRule b how now g answer s')) (sym sharing) (open_does input front shared guests live told g guest there is.own sound input_is how)) refl
 
-  opens : (it : Standard) (how : Access) (from_is : Input) (streams : Streams) → guest.settings.input ≡ from_is → Goes (call.Open it how) (settled guest (act (Make (opened from_is it how) None) guest.own) shared streams)
-  opens standard.Input how from.Shared streams e = shared_opens how streams (ap shares_in there ∙ ap run.is_shared e)
-  opens standard.Input how from.Terminal streams e = shared_opens how streams (ap shares_in there ∙ ap run.is_shared e)
-  opens standard.Input how from.Empty streams e = stream_opens standard.Input how streams (λ s' same answer. subst (λ b. OpenRule b how now g answer s') (sym (ap shares_in there ∙ ap run.is_shared e)) same)
-  opens standard.Input how from.Closed streams e = stream_opens standard.Input how streams (λ s' same answer. subst (λ b. OpenRule b how now g answer s') (sym (ap shares_in there ∙ ap run.is_shared e)) same)
-  opens standard.Input how (from.Named name) streams e = stream_opens standard.Input how streams (λ s' same answer. subst (λ b. OpenRule b how now g answer s') (sym (ap shares_in there ∙ ap run.is_shared e)) same)
+  opens : (it : Standard) (how : Access) (from_is : Input) (streams : Streams) → (at_context of guest.settings).input ≡ from_is → Goes (call.Open it how) (settled guest (act (Make (opened from_is of it how) None) guest.own) shared streams)
+  opens standard.Input how from.Shared streams e = shared_opens how streams (ap (λ o. shares_in o of) there ∙ ap run.is_shared e)
+  opens standard.Input how from.Terminal streams e = shared_opens how streams (ap (λ o. shares_in o of) there ∙ ap run.is_shared e)
+  opens standard.Input how from.Empty streams e = stream_opens standard.Input how streams (λ s' same answer. subst (λ b. OpenRule b how now g answer s') (sym (ap (λ o. shares_in o of) there ∙ ap run.is_shared e)) same)
+  opens standard.Input how from.Closed streams e = stream_opens standard.Input how streams (λ s' same answer. subst (λ b. OpenRule b how now g answer s') (sym (ap (λ o. shares_in o of) there ∙ ap run.is_shared e)) same)
+  opens standard.Input how (from.Named name) streams e = stream_opens standard.Input how streams (λ s' same answer. subst (λ b. OpenRule b how now g answer s') (sym (ap (λ o. shares_in o of) there ∙ ap run.is_shared e)) same)
   opens standard.Output how from.Shared streams e = stream_opens standard.Output how streams (λ s' same answer. same)
   opens standard.Error how from.Shared streams e = stream_opens standard.Error how streams (λ s' same answer. same)
   opens standard.Output how from.Terminal streams e = stream_opens standard.Output how streams (λ s' same answer. same)
@@ -270,9 +303,10 @@ module _ (input front : List ℕ) (shared : Shared) (guests : ℕ → Option Gue
     where
       by : (e : Entry) (parent : Option ℕ) → held_at guest.own.table n ≡ Some (record { entry = e; parent = parent }) → Goes (call.On n it) (answer_at (the_calls clocks) it (record { guest = g; number = n }) (Some e) guest shared streams)
       by (entry.Shared e) parent held = shared_next it n e parent streams held
-      by (entry.Stream standard.Input e) parent held = let done : Doing InStream = called it (record { guest = g; number = n }) e (input_at guest.settings.input streams) in apart_next it n done.deed (put_input guest.settings.input done.left streams) (ap standing_at held)
-      by (entry.Stream standard.Output e) parent held = let done : Doing OutStream = sent it standard.Output (record { guest = g; number = n }) e (output_at guest.settings.stdout streams) in apart_next it n done.deed (put_output guest.settings.stdout done.left streams) (ap standing_at held)
-      by (entry.Stream standard.Error e) parent held = let done : Doing OutStream = sent it standard.Error (record { guest = g; number = n }) e (output_at guest.settings.stderr streams) in apart_next it n done.deed (put_output guest.settings.stderr done.left streams) (ap standing_at held)
+      by (entry.Stream made_for standard.Input e) parent held = let done : Doing InStream = called it made_for (record { guest = g; number = n }) e (input_at (at_context made_for guest.settings).input streams) in apart_next it n done.deed (put_input (at_context made_for guest.settings).input done.left streams) (ap standing_at held)
+      by (entry.Stream made_for standard.Output e) parent held = let done : Doing OutStream = sent it made_for standard.Output (record { guest = g; number = n }) e (output_at (at_context made_for guest.settings).stdout streams) in apart_next it n done.deed (put_output (at_context made_for guest.settings).stdout done.left streams) (ap standing_at held)
+      by (entry.Stream made_for standard.Error e) parent held = let done : Doing OutStream = sent it made_for standard.Error (record { guest = g; number = n }) e (output_at (at_context made_for guest.settings).stderr streams) in apart_next it n done.deed (put_output (at_context made_for guest.settings).stderr done.left streams) (ap standing_at held)
+      by (entry.Descriptor made_for preopen e) parent held = apart_next it n (Tell (tell.Trap ResourceWrongType)) streams (ap standing_at held)
       by (entry.Own e) parent held = apart_next it n (awaited clocks it (record { guest = g; number = n }) e) streams (ap standing_at held)
 
   -- ---- a drop
@@ -287,17 +321,22 @@ module _ (input front : List ℕ) (shared : Shared) (guests : ℕ → Option Gue
   own_next : (it : OwnCall) (deed : Deed) (streams : Streams) → Goes (call.Own it) (settled guest (act (apart deed) guest.own) shared streams)
   own_next it deed streams = other (call.Own it) (act (apart deed) guest.own) streams (follow (call.Own it) (apart deed) (λ live. refl)) (stands_still guest.own (live g) is.own deed) (λ s' e. e) refl
 
+  -- ---- a call on descriptors
+  on_next : (c : Call) → ((live : FinSet nat_cmp) → dropped_by c live ≡ live) → ((answer : Reply) (s' : Sharing) → s' ≡ now → CallRule c input now g of answer s') → ((answer : Reply) → call_bytes false c input now g answer ≡ []) → (streams : Streams) (done : Answered) → OnTree guest shared streams done → Goes c done
+  on_next c keeps rule none streams done on =
+      subst (λ done. Goes c done) on.is (let did = act (apart on.deed) guest.own in other c did (put_tree on.name on.left streams) (follow c (apart on.deed) keeps) (stands_still guest.own (live g) is.own on.deed) (rule did.reply) (none did.reply))
+
   terminal_next : (it : Standard) (deed : Deed) (streams : Streams) → Goes (call.Terminal it) (settled guest (act (apart deed) guest.own) shared streams)
   terminal_next it deed streams = other (call.Terminal it) (act (apart deed) guest.own) streams (follow (call.Terminal it) (apart deed) (λ live. refl)) (stands_still guest.own (live g) is.own deed) (λ s' e. e) refl
 
   -- ---- a call on the guest's random sources: nothing of it shows but what it is told
-  random_next : (it : RandomCall) (done : Drawn) (streams : Streams) → Goes (call.Random it) (on_sources done guest shared streams)
+  random_next : (it : RandomCall) (done : Drawn) (streams : Streams) → Goes (call.Random it) (on_sources done of guest shared streams)
   random_next it done streams =
       let told : Done = only_told done.told guest.own in
       let before = other (call.Random it) told streams (follow (call.Random it) (Tell done.told) (λ live. refl)) (λ m. refl) (λ s' e. e) refl in
-      drawn_from (left_guest guest told.reply told.own) done.left before
+      drawn_from (left_guest guest told.reply told.own) (put_context of done.left guest.sources) before
     where
-      drawn_from : (left : Guest) (sources : Sources) → Goes (call.Random it) (record { reply = reply.Told done.told; guest = left; shared = shared; streams = streams }) → Goes (call.Random it) (record { reply = reply.Told done.told; guest = record left { sources = sources }; shared = shared; streams = streams })
+      drawn_from : (left : Guest) (sources : ByContext Sources) → Goes (call.Random it) (record { reply = reply.Told done.told; guest = left; shared = shared; streams = streams }) → Goes (call.Random it) (record { reply = reply.Told done.told; guest = record left { sources = sources }; shared = shared; streams = streams })
       drawn_from left sources before = record {
         front' = before.front';
         live' = before.live';
@@ -305,19 +344,21 @@ module _ (input front : List ℕ) (shared : Shared) (guests : ℕ → Option Gue
         input_is = before.input_is;
         sound = before.sound;
         owned = λ m. owned_again (nat_eq m g) left sources (guests m) (before.live' m) (before.owned m);
-        rule = subst (λ s. EndedRule false (call.Random it) input now g (reply.Told done.told) s) (sources_apart before.front' shared guests before.live' told g left sources) before.rule;
+        rule = subst (λ s. EndedRule false (call.Random it) input now g of (reply.Told done.told) s) (sources_apart before.front' shared guests before.live' told g left sources) before.rule;
       }
 
-  pub goes_next : (clocks : Clocks) (c : Call) (streams : Streams) → Goes c (answer_to (the_calls clocks) c g guest shared streams)
-  goes_next clocks (call.Open it how) streams = opens it how guest.settings.input streams refl
+  pub goes_next : (clocks : Clocks) (c : Call) (streams : Streams) → Goes c (answer_to (the_calls clocks) c g of guest shared streams)
+  goes_next clocks (call.Open it how) streams = opens it how (at_context of guest.settings).input streams refl
   goes_next clocks (call.On n it) streams = entry_next clocks it n (held_at guest.own.table n) streams refl
   goes_next clocks (call.Drop n) streams = drop_next n (leave_entry (leaver.Entry (record { guest = g; number = n })) (entry_at guest.own n) guest.settings streams)
-  goes_next clocks (call.Own it) streams = own_next it (own_deed clocks it guest.settings guest.own) streams
-  goes_next clocks (call.Terminal it) streams = terminal_next it (opened_terminal it guest.settings) streams
-  goes_next clocks (call.Random it) streams = random_next it (drawn it guest.settings guest.sources) streams
+  goes_next clocks (call.Terminal it) streams = terminal_next it (opened_terminal it (at_context of guest.settings)) streams
+  goes_next clocks (call.Own it) streams = own_next it (own_deed clocks it of (at_context of guest.settings) guest.own) streams
+  goes_next clocks (call.Descriptor n it) streams = on_next (call.Descriptor n it) (λ live. refl) (λ answer s' e. e) (λ answer. refl) streams _ (descriptor_on (the_calls clocks) it (at_context of guest.settings).blocking (entry_at guest.own n) guest shared streams)
+  goes_next clocks (call.Pair n to it) streams = on_next (call.Pair n to it) (λ live. refl) (λ answer s' e. e) (λ answer. refl) streams _ (pair_on (the_calls clocks) it (entry_at guest.own n) (entry_at guest.own to) guest shared streams)
+  goes_next clocks (call.Random it) streams = random_next it (drawn it (at_context of guest.settings) (at_context of guest.sources)) streams
 
-pub call_next : (clocks : Clocks) (b : Bool) (c : Call) (input front : List ℕ) (shared : Shared) (guests : ℕ → Option Guest) (live : ℕ → FinSet nat_cmp) (told : Told) (g : ℕ) (guest : Guest) (streams : Streams) → guest.ended ≡ b → guests g ≡ Some guest → IsGuest guest (live g) → ((m : ℕ) → OwnedBy (guests m) (live m)) → IsSound shared → input ≡ front ++ (shared.held ++ told.left) → let done : Answered = answer_by b (the_calls clocks) c g guest shared streams in Next input front shared guests live told (λ s. call_bytes b c input s g done.reply) (λ s s'. EndedRule b c input s g done.reply s') done.shared (at_number guests g (Some done.guest)) told
-call_next clocks true c input front shared guests live told g guest streams ended there is owned sound input_is = record {
+pub call_next : (clocks : Clocks) (b : Bool) (c : Call) (input front : List ℕ) (shared : Shared) (guests : ℕ → Option Guest) (live : ℕ → FinSet nat_cmp) (told : Told) (g : ℕ) (of : Option ℕ) (guest : Guest) (streams : Streams) → guest.ended ≡ b → guests g ≡ Some guest → IsGuest guest (live g) → ((m : ℕ) → OwnedBy (guests m) (live m)) → IsSound shared → input ≡ front ++ (shared.held ++ told.left) → let done : Answered = answer_by b (the_calls clocks) c g of guest shared streams in Next input front shared guests live told (λ s. call_bytes b c input s g done.reply) (λ s s'. EndedRule b c input s g of done.reply s') done.shared (at_number guests g (Some done.guest)) told
+call_next clocks true c input front shared guests live told g of guest streams ended there is owned sound input_is = record {
   front' = front;
   live' = at_number live g (live g);
   front_is = sym (append-nil front);
@@ -326,5 +367,5 @@ call_next clocks true c input front shared guests live told g guest streams ende
   owned = owned_put guests live g (Some (with_own guest guest.own)) (live g) owned (record { own = is.own; fresh = λ e. absurd (true≢false e) });
   rule = (refl, (λ i. shown front shared (at_number guests g (Some (with_own guest guest.own))) (λ m. cond_same live m g (live g) refl i) told) ∙ put_same front shared guests live told g guest there);
 }
-call_next clocks false c input front shared guests live told g guest streams ended there is owned sound input_is =
-    goes_next input front shared guests live told g guest ended there is owned sound input_is clocks c streams
+call_next clocks false c input front shared guests live told g of guest streams ended there is owned sound input_is =
+    goes_next input front shared guests live told g of guest ended there is owned sound input_is clocks c streams

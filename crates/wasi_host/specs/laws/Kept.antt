@@ -1,5 +1,5 @@
 -- An output keeps what it took: a write that is done adds all its bytes, any other a first part, and no other call adds.
-use Rattle.std.proofs.Common.{◌≡◌, ℕ, Bool, true, false, List, [], ◌∷◌, ◌++◌, length, take, Result, Ok, Err, refl, ap, sym, arith, append-nil, true≢false}
+use Rattle.std.proofs.Common.{◌≡◌, ℕ, Bool, true, false, List, [], ◌∷◌, ◌++◌, length, take, Option, Result, Ok, Err, refl, ap, sym, arith, append-nil, true≢false}
 use Rattle.std.specs.Prelude.{nat_lt, if◌then◌else◌, min}
 use Rattle.std.proofs.lemmas.Grind.{common_steps}
 use Rattle.wasi_base.specs.declared.io_kind.IoKind.{IoKind}
@@ -106,30 +106,30 @@ block_keeps : (owner : Owner) (s : OutStream) → is_direct s ≡ true → (is_d
 block_keeps owner (stream.Buffered it) is = absurd (true≢false (sym is))
 block_keeps owner other is = (is, refl)
 
-polled_write_keeps : (bytes : List ℕ) (to : Standard) (owner : Owner) (handle : StdoutHandle) (s : OutStream) (own : Own) → is_direct s ≡ true → let done = polled_write to owner handle s bytes in Keeps (on.PollWrite bytes) (at.Polled handle) s done.left (act (apart done.deed) own).reply
-polled_write_keeps bytes to owner handle (stream.Pipe pipe) own is = let kept = poll_write_keeps bytes (stream.Pipe pipe) is in record { direct = kept.direct; took = (poll_told told.Count (output_poll_write (stream.Pipe pipe) bytes), refl, kept.took) }
-polled_write_keeps bytes to owner handle (stream.File out) own is = let kept = poll_write_keeps bytes (stream.File out) is in record { direct = kept.direct; took = (poll_told told.Count (output_poll_write (stream.File out) bytes), refl, kept.took) }
-polled_write_keeps bytes to owner handle (stream.Stdio out) own is = let kept = poll_write_keeps bytes (stream.Stdio out) is in record { direct = kept.direct; took = (poll_told told.Count (output_poll_write (stream.Stdio out) bytes), refl, kept.took) }
-polled_write_keeps bytes to owner handle (stream.Buffered it) own is = absurd (true≢false (sym is))
-polled_write_keeps bytes to owner handle stream.Closed own is = absurd (true≢false (sym is))
-polled_write_keeps bytes to owner handle stream.Sink own is = absurd (true≢false (sym is))
+polled_write_keeps : (bytes : List ℕ) (of : Option ℕ) (to : Standard) (owner : Owner) (handle : StdoutHandle) (s : OutStream) (own : Own) → is_direct s ≡ true → let done = polled_write of to owner handle s bytes in Keeps (on.PollWrite bytes) (at.Polled handle) s done.left (act (apart done.deed) own).reply
+polled_write_keeps bytes of to owner handle (stream.Pipe pipe) own is = let kept = poll_write_keeps bytes (stream.Pipe pipe) is in record { direct = kept.direct; took = (poll_told told.Count (output_poll_write (stream.Pipe pipe) bytes), refl, kept.took) }
+polled_write_keeps bytes of to owner handle (stream.File out) own is = let kept = poll_write_keeps bytes (stream.File out) is in record { direct = kept.direct; took = (poll_told told.Count (output_poll_write (stream.File out) bytes), refl, kept.took) }
+polled_write_keeps bytes of to owner handle (stream.Stdio out) own is = let kept = poll_write_keeps bytes (stream.Stdio out) is in record { direct = kept.direct; took = (poll_told told.Count (output_poll_write (stream.Stdio out) bytes), refl, kept.took) }
+polled_write_keeps bytes of to owner handle (stream.Buffered it) own is = absurd (true≢false (sym is))
+polled_write_keeps bytes of to owner handle stream.Closed own is = absurd (true≢false (sym is))
+polled_write_keeps bytes of to owner handle stream.Sink own is = absurd (true≢false (sym is))
 
-polled_flush_keeps : (to : Standard) (owner : Owner) (handle : StdoutHandle) (s : OutStream) (own : Own) → is_direct s ≡ true → let done = polled_flush to owner handle s in Keeps on.PollFlush (at.Polled handle) s done.left (act (apart done.deed) own).reply
-polled_flush_keeps to owner handle (stream.Pipe pipe) own is = record { direct = is; took = refl }
-polled_flush_keeps to owner handle (stream.File out) own is = record { direct = refl; took = refl }
-polled_flush_keeps to owner handle (stream.Stdio out) own is = record { direct = refl; took = refl }
-polled_flush_keeps to owner handle (stream.Buffered it) own is = absurd (true≢false (sym is))
-polled_flush_keeps to owner handle stream.Closed own is = absurd (true≢false (sym is))
-polled_flush_keeps to owner handle stream.Sink own is = absurd (true≢false (sym is))
+polled_flush_keeps : (of : Option ℕ) (to : Standard) (owner : Owner) (handle : StdoutHandle) (s : OutStream) (own : Own) → is_direct s ≡ true → let done = polled_flush of to owner handle s in Keeps on.PollFlush (at.Polled handle) s done.left (act (apart done.deed) own).reply
+polled_flush_keeps of to owner handle (stream.Pipe pipe) own is = record { direct = is; took = refl }
+polled_flush_keeps of to owner handle (stream.File out) own is = record { direct = refl; took = refl }
+polled_flush_keeps of to owner handle (stream.Stdio out) own is = record { direct = refl; took = refl }
+polled_flush_keeps of to owner handle (stream.Buffered it) own is = absurd (true≢false (sym is))
+polled_flush_keeps of to owner handle stream.Closed own is = absurd (true≢false (sym is))
+polled_flush_keeps of to owner handle stream.Sink own is = absurd (true≢false (sym is))
 
-pub outputs_keep : (it : EntryCall) (to : Standard) (owner : Owner) (entry : StreamEntry) (s : OutStream) (own : Own) → is_direct s ≡ true → let done = sent it to owner entry s in Keeps it entry s done.left (act (apart done.deed) own).reply
-outputs_keep (on.Write bytes) to owner at.Plain s own is = let kept = write_keeps bytes s is in record { direct = kept.direct; took = (result_told is_done (output_write s bytes), refl, kept.took) }
-outputs_keep (on.PollWrite bytes) to owner (at.Polled handle) s own is = polled_write_keeps bytes to owner handle s own is
-outputs_keep on.Flush to owner at.Plain s own is = record { direct = flush_direct s is; took = flush_took s is }
-outputs_keep on.PollFlush to owner (at.Polled handle) s own is = polled_flush_keeps to owner handle s own is
-outputs_keep on.CheckWrite to owner at.Plain s own is = let kept = check_keeps s is in record { direct = kept.0; took = kept.1 }
-outputs_keep on.Ready to owner at.Pollable s own is = record { direct = is; took = refl }
-outputs_keep on.Block to owner at.Pollable s own is = let kept = block_keeps owner s is in record { direct = kept.0; took = kept.1 }
-outputs_keep other to owner at.Plain s own is = record { direct = is; took = refl }
-outputs_keep other to owner (at.Polled handle) s own is = record { direct = is; took = refl }
-outputs_keep other to owner at.Pollable s own is = record { direct = is; took = refl }
+pub outputs_keep : (it : EntryCall) (of : Option ℕ) (to : Standard) (owner : Owner) (entry : StreamEntry) (s : OutStream) (own : Own) → is_direct s ≡ true → let done = sent it of to owner entry s in Keeps it entry s done.left (act (apart done.deed) own).reply
+outputs_keep (on.Write bytes) of to owner at.Plain s own is = let kept = write_keeps bytes s is in record { direct = kept.direct; took = (result_told is_done (output_write s bytes), refl, kept.took) }
+outputs_keep (on.PollWrite bytes) of to owner (at.Polled handle) s own is = polled_write_keeps bytes of to owner handle s own is
+outputs_keep on.Flush of to owner at.Plain s own is = record { direct = flush_direct s is; took = flush_took s is }
+outputs_keep on.PollFlush of to owner (at.Polled handle) s own is = polled_flush_keeps of to owner handle s own is
+outputs_keep on.CheckWrite of to owner at.Plain s own is = let kept = check_keeps s is in record { direct = kept.0; took = kept.1 }
+outputs_keep on.Ready of to owner at.Pollable s own is = record { direct = is; took = refl }
+outputs_keep on.Block of to owner at.Pollable s own is = let kept = block_keeps owner s is in record { direct = kept.0; took = kept.1 }
+outputs_keep other of to owner at.Plain s own is = record { direct = is; took = refl }
+outputs_keep other of to owner (at.Polled handle) s own is = record { direct = is; took = refl }
+outputs_keep other of to owner at.Pollable s own is = record { direct = is; took = refl }

@@ -302,7 +302,7 @@ module _ (input front : List ℕ) (shared : Shared) (guests : ℕ → Option Gue
   -- ---- a drop
   pollable_is : (n : ℕ) (it : Entry) (parent : Option ℕ) → parent ≡ Some n → goes_under it (Some (entry.Shared on.Reader)) ≡ true → (wait : Option ℕ) × (standing_by it parent ≡ Some (run.Pollable n wait))
   pollable_is n (entry.Shared (on.Pollable wait)) parent e under = (wait, ap (λ o. Some (run.Pollable (parent_or o) wait)) e)
-  pollable_is n (entry.Stream to stream.Pollable) parent e under = absurd (true≢false (sym under))
+  pollable_is n (entry.Stream of to stream.Pollable) parent e under = absurd (true≢false (sym under))
   pollable_is n other parent e under = absurd (true≢false (sym under))
 
   -- what stands under a number goes under its entry

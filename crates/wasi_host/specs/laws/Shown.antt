@@ -19,6 +19,8 @@ use Rattle.wasi_host.specs.declared.entry.Entry.{Entry}
 use Rattle.wasi_host.specs.declared.entry.Entry.TheVariants as entry
 use Rattle.wasi_host.specs.declared.entry.SharedEntry.TheVariants as on
 use Rattle.wasi_reply.specs.declared.reply.Told.TheVariants as tell
+use Rattle.wasi_host.specs.Calls.{Settings}
+use Rattle.wasi_host.specs.Contexts.{ByContext, at_context}
 use Rattle.wasi_host.specs.Deeds.{Own, with_kept}
 use Rattle.wasi_host.specs.Calls.{reading_told, polling_told}
 use Rattle.wasi_host.specs.Host.{Guest, new_guest}
@@ -47,9 +49,12 @@ abbrev pub standing_with : Option Guest → ℕ → Option Standing
 standing_with None n = None
 standing_with (Some guest) n = standing_in guest.own n
 
-abbrev pub shares_in : Option Guest → Bool
-shares_in None = false
-shares_in (Some guest) = is_shared guest.settings.input
+abbrev pub shares_of : ByContext Settings → Option ℕ → Bool
+shares_of settings of = is_shared (at_context of settings).input
+
+abbrev pub shares_in : Option Guest → Option ℕ → Bool
+shares_in None = λ of. false
+shares_in (Some guest) = shares_of guest.settings
 
 abbrev pub capacity_in : Option Guest → ℕ
 capacity_in None = 1024
@@ -86,10 +91,10 @@ pub get_set : {A : Type 0} (xs : List A) (n m : ℕ) (x d : A) → n < length xs
 get_set xs n m x d h = grind (arith, nat_tests, common_steps)
 
 -- what is shown once a guest is another
-pub shown_put : (front : List ℕ) (shared : Shared) (guests : ℕ → Option Guest) (live : ℕ → FinSet nat_cmp) (told : Told) (n : ℕ) (guest : Guest) → shown front shared (at_number guests n (Some guest)) live told ≡ record (shown front shared guests live told) { standing = at_number (shown front shared guests live told).standing n (standing_with (Some guest)); shares = at_number (shown front shared guests live told).shares n (is_shared guest.settings.input); capacity = at_number (shown front shared guests live told).capacity n guest.own.table.capacity; ended = at_number (shown front shared guests live told).ended n guest.ended }
+pub shown_put : (front : List ℕ) (shared : Shared) (guests : ℕ → Option Guest) (live : ℕ → FinSet nat_cmp) (told : Told) (n : ℕ) (guest : Guest) → shown front shared (at_number guests n (Some guest)) live told ≡ record (shown front shared guests live told) { standing = at_number (shown front shared guests live told).standing n (standing_with (Some guest)); shares = at_number (shown front shared guests live told).shares n (shares_of guest.settings); capacity = at_number (shown front shared guests live told).capacity n guest.own.table.capacity; ended = at_number (shown front shared guests live told).ended n guest.ended }
 shown_put front shared guests live told n guest = λ i. record (shown front shared guests live told) {
   standing = λ g. cond_map {B = ℕ → Option Standing} standing_with (nat_eq g n) (Some guest) (guests g) i;
-  shares = λ g. cond_map shares_in (nat_eq g n) (Some guest) (guests g) i;
+  shares = λ g. cond_map {B = Option ℕ → Bool} shares_in (nat_eq g n) (Some guest) (guests g) i;
   capacity = λ g. cond_map capacity_in (nat_eq g n) (Some guest) (guests g) i;
   ended = λ g. cond_map ended_in (nat_eq g n) (Some guest) (guests g) i;
 }
@@ -103,7 +108,7 @@ put_own front shared guests live told n guest own standing e is same =
     shown_put front shared guests live told n (with_own guest own)
     ∙ (λ i. record (shown front shared guests live told) {
       standing = at_number (shown front shared guests live told).standing n (is i);
-      shares = λ g. cond_same {A = Bool} (λ (m : ℕ). shares_in (guests m)) g n (is_shared guest.settings.input) (ap shares_in e) i;
+      shares = λ g. cond_same {A = Option ℕ → Bool} (λ (m : ℕ). shares_in (guests m)) g n (shares_of guest.settings) (ap shares_in e) i;
       capacity = λ g. cond_same {A = ℕ} (λ (m : ℕ). capacity_in (guests m)) g n own.table.capacity (ap capacity_in e ∙ sym same) i;
       ended = λ g. cond_same {A = Bool} (λ (m : ℕ). ended_in (guests m)) g n guest.ended (ap ended_in e) i;
     })
@@ -148,11 +153,16 @@ standing_dropped own n m =
     ap standing_at (held-remove own.table.entries n m)
     ∙ cond_map standing_at (eqb m n) None (held_at own.table m)
 
+-- each context of a new guest reads what its main one does
+new_shares : (reads : Input) (of : Option ℕ) → shares_of (new_guest reads).settings of ≡ is_shared reads
+new_shares reads None = refl
+new_shares reads (Some id) = refl
+
 -- a new guest shows where it reads, and nothing else
-pub declare_shown : (front : List ℕ) (shared : Shared) (guests : ℕ → Option Guest) (live : ℕ → FinSet nat_cmp) (told : Told) (n : ℕ) (reads : Input) → guests n ≡ None → shown front shared (at_number guests n (Some (new_guest reads))) live told ≡ record (shown front shared guests live told) { shares = at_number (shown front shared guests live told).shares n (is_shared reads) }
+pub declare_shown : (front : List ℕ) (shared : Shared) (guests : ℕ → Option Guest) (live : ℕ → FinSet nat_cmp) (told : Told) (n : ℕ) (reads : Input) → guests n ≡ None → shown front shared (at_number guests n (Some (new_guest reads))) live told ≡ record (shown front shared guests live told) { shares = at_number (shown front shared guests live told).shares n (λ of. is_shared reads) }
 declare_shown front shared guests live told n reads e = shown_put front shared guests live told n (new_guest reads) ∙ (λ i. record (shown front shared guests live told) {
   standing = λ g. cond_same {A = ℕ → Option Standing} (λ (m : ℕ). standing_with (guests m)) g n (standing_with (Some (new_guest reads))) (ap standing_with e ∙ sym (nothing_stands 1024)) i;
-  shares = at_number (shown front shared guests live told).shares n (is_shared reads);
+  shares = at_number (shown front shared guests live told).shares n (λ of. new_shares reads of i);
   capacity = λ g. cond_same {A = ℕ} (λ (m : ℕ). capacity_in (guests m)) g n 1024 (ap capacity_in e) i;
   ended = λ g. cond_same {A = Bool} (λ (m : ℕ). ended_in (guests m)) g n false (ap ended_in e) i;
 })

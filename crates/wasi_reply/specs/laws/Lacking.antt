@@ -1,8 +1,8 @@
 -- Texts that lack a byte, and where they end before it.
-use Rattle.std.proofs.Common.{◌≡◌, ◌≢◌, ℕ, zero, suc, ◌+◌, ◌/◌, ◌%◌, ◌<◌, Bool, true, false, cond, List, [], ◌∷◌, ◌++◌, refl, ap, arith, ◌∙◌, eq-eqb, ne_eqb}
+use Rattle.std.proofs.Common.{◌≡◌, ◌≢◌, ℕ, zero, suc, ◌+◌, ◌/◌, ◌%◌, ◌<◌, ◌≤◌, ℤ, pos, negsuc, Bool, true, false, cond, List, [], ◌∷◌, ◌++◌, refl, ap, arith, ◌∙◌, eq-eqb, ne_eqb}
 use Rattle.std.specs.Prelude.{nat_eq, nat_lt}
 use Rattle.std.specs.List.{AllByRecursion, slice_split, onto_first}
-use Rattle.std.specs.Fmt.{decimal, digits, digits_onto, digit_glyph}
+use Rattle.std.specs.Fmt.{decimal, signed_decimal, digits, digits_onto, digit_glyph}
 use Rattle.std.proofs.lemmas.Bool.Decides.{nat_tests}
 use Rattle.std.proofs.lemmas.List.Splits.{slice_split-cons_no}
 
@@ -27,20 +27,56 @@ pub lacks-append : (byte : ℕ) (a b : List ℕ) → Lacks byte a → Lacks byte
 lacks-append byte [] b none h = h
 lacks-append byte (x ∷ a) b h k = (h.0, lacks-append byte a b h.1 k)
 
--- digits lack each byte below them
-glyph : (byte d : ℕ) → byte < 48 → digit_glyph false d ≢ byte
-glyph byte d below = elim (nat_lt d 10) as (λ small. cond small (48 + d) (87 + d) ≢ byte) [ true ↦ omega arith | false ↦ omega arith ]
+-- no digit is this byte
+abbrev IsNoDigit : ℕ → Type 0
+IsNoDigit byte = (d : ℕ) → digit_glyph false d ≢ byte
 
-lacks-digits : (byte k n : ℕ) (after : List ℕ) → byte < 48 → Lacks byte after → Lacks byte (digits_onto k 10 false n after)
-lacks-digits byte zero n after below h = h
-lacks-digits byte (suc k) n after below h = elim (nat_eq (n / 10) 0) as (λ last. Lacks byte (cond last (digit_glyph false (n % 10) ∷ after) (digits_onto k 10 false (n / 10) (digit_glyph false (n % 10) ∷ after)))) [
-  | true ↦ (glyph byte (n % 10) below, h)
-  | false ↦ lacks-digits byte k (n / 10) (digit_glyph false (n % 10) ∷ after) below (glyph byte (n % 10) below, h)
+-- digits lack each byte below them
+below_digits : (byte : ℕ) → byte < 48 → IsNoDigit byte
+below_digits byte below d = elim (nat_lt d 10) as (λ small. cond small (48 + d) (87 + d) ≢ byte) [ true ↦ omega arith | false ↦ omega arith ]
+
+-- and each between `9` and `a`
+by_size : (byte d : ℕ) (small : Bool) → nat_lt d 10 ≡ small → 57 < byte → byte < 97 → cond small (48 + d) (87 + d) ≢ byte
+by_size byte d true is above below =
+    let few : d < 10 = grind (arith, nat_tests) in
+    omega (arith, few)
+by_size byte d false is above below =
+    let many : 10 ≤ d = grind (arith, nat_tests) in
+    omega (arith, many)
+
+between_digits : (byte : ℕ) → 57 < byte → byte < 97 → IsNoDigit byte
+between_digits byte above below d = by_size byte d (nat_lt d 10) refl above below
+
+lacks-digits : (byte k n : ℕ) (after : List ℕ) → IsNoDigit byte → Lacks byte after → Lacks byte (digits_onto k 10 false n after)
+lacks-digits byte zero n after none h = h
+lacks-digits byte (suc k) n after none h = elim (nat_eq (n / 10) 0) as (λ last. Lacks byte (cond last (digit_glyph false (n % 10) ∷ after) (digits_onto k 10 false (n / 10) (digit_glyph false (n % 10) ∷ after)))) [
+  | true ↦ (none (n % 10), h)
+  | false ↦ lacks-digits byte k (n / 10) (digit_glyph false (n % 10) ∷ after) none (none (n % 10), h)
 ]
 
-pub lacks-decimal : (byte n : ℕ) → byte < 48 → Lacks byte (decimal n)
+lacks-number : (byte n : ℕ) → IsNoDigit byte → Lacks byte (decimal n)
 unfolding digits
-lacks-decimal byte n below = lacks-digits byte 64 n [] below tt
+lacks-number byte n none = lacks-digits byte 64 n [] none tt
+
+pub lacks-decimal : (byte n : ℕ) → byte < 48 → Lacks byte (decimal n)
+lacks-decimal byte n below = lacks-number byte n (below_digits byte below)
+
+pub lacks-decimal_between : (byte n : ℕ) → 57 < byte → byte < 97 → Lacks byte (decimal n)
+lacks-decimal_between byte n above below = lacks-number byte n (between_digits byte above below)
+
+-- a `-` may stand before them
+pub lacks-signed : (byte : ℕ) (z : ℤ) → byte < 45 → Lacks byte (signed_decimal z)
+lacks-signed byte (pos n) below = lacks-decimal byte n (omega (arith, below))
+lacks-signed byte (negsuc n) below = (omega (arith, below), lacks-decimal byte (suc n) (omega (arith, below)))
+
+pub lacks-signed_between : (byte : ℕ) (z : ℤ) → 57 < byte → byte < 97 → Lacks byte (signed_decimal z)
+lacks-signed_between byte (pos n) above below = lacks-decimal_between byte n above below
+lacks-signed_between byte (negsuc n) above below = (omega (arith, above), lacks-decimal_between byte (suc n) above below)
+
+-- a text that holds the byte doesn't lack it
+pub holds : (byte : ℕ) (a b : List ℕ) → Lacks byte (a ++ byte ∷ b) → ⊥
+holds byte [] b h = h.0 refl
+holds byte (x ∷ a) b h = holds byte a b h.1
 
 -- nothing, or a text that begins with this byte
 abbrev pub BeginsIfAny : ℕ → List ℕ → Type 0

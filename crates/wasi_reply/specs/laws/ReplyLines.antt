@@ -10,12 +10,8 @@ use Rattle.wasi_reply.specs.declared.reply.Reply.TheVariants as reply
 use Rattle.wasi_reply.specs.Field.{fields_text}
 use Rattle.wasi_reply.specs.Lines.{lines_in}
 use Rattle.wasi_reply.specs.Reply.{told_fields, worked_fields, fields_of, text_of, text_of_all}
-use Rattle.wasi_reply.specs.laws.FieldTexts.{fields_line}
-use Rattle.wasi_reply.specs.laws.Lacking.{Lacks, has, lacking, lacks-append, slice_split-append}
-
--- a word holds neither a line's end nor a space
-abbrev pub IsWord : List ℕ → Type 0
-IsWord word = (has 10 word ≡ false) × (has 32 word ≡ false)
+use Rattle.wasi_reply.specs.laws.FieldTexts.{IsWord, fields_line}
+use Rattle.wasi_reply.specs.laws.Lacking.{Lacks, lacking, lacks-append, slice_split-append}
 
 told_word : (it : Told) → IsWord (told_fields it).0
 told_word (told.Truth true) = (refl, refl)
@@ -28,6 +24,7 @@ worked_word other = (refl, refl)
 
 pub reply_word : (it : Reply) → IsWord (fields_of it).0
 reply_word (reply.Handle number) = (refl, refl)
+reply_word (reply.Directories directories) = (refl, refl)
 reply_word (reply.Told it) = told_word it
 reply_word reply.Ended = (refl, refl)
 reply_word (reply.Worked it) = worked_word it

@@ -11,6 +11,7 @@ use Rattle.std.proofs.lemmas.List.{length-map}
 use Rattle.std.proofs.lemmas.Bool.Decides.{nat_tests}
 use Rattle.std.proofs.lemmas.Fmt.{decimal_is_IsNumeral, length-decimal-le}
 use Rattle.wasi_words.specs.Fields.{number_of, words_of, lines_of}
+use Rattle.wasi_script.specs.Contexts.{main_context}
 use Rattle.wasi_script.specs.declared.lines.Line.{Line}
 use Rattle.wasi_script.specs.declared.lines.Line.TheVariants as line
 use Rattle.wasi_script.specs.declared.lines.WorkerTurn.TheVariants as turn
@@ -71,7 +72,7 @@ its_number size small =
 
 -- a call on a number of a guest, by the size that its last word is
 abbrev asked_by : ℕ → ℕ → (ℕ → EntryCall) → Option ℕ → Option Line
-asked_by guest number make it = option_map (line.Call guest) (option_map (λ (both : ℕ × ℕ). call.On both.0 (make both.1)) (option_map (λ size. (number, size)) it))
+asked_by guest number make it = option_map (line.Call (main_context guest)) (option_map (λ (both : ℕ × ℕ). call.On both.0 (make both.1)) (option_map (λ size. (number, size)) it))
 
 asks : (words : List (List ℕ) → List (List ℕ)) (outcome : Option ℕ → Option Line) (size : ℕ) → size < 64 → ((last : List ℕ) → line_of (words (last ∷ [])) ≡ outcome (number_of last)) → step_or_invalid (line_of (words (words_of (decimal size)))) ≡ step_or_invalid (outcome (Some size))
 asks words outcome size small is = ap step_or_invalid (ap (λ last. line_of (words last)) (one_word (decimal size) (none_in_digits 32 (decimal size) (omega arith) (digits_of size small))) ∙ is (decimal size) ∙ ap outcome (its_number size small))
@@ -87,11 +88,11 @@ text_by read other capture deliver skip size =
 
 abbrev step_by : Bool → Bool → Bool → Bool → Bool → ℕ → Line
 step_by read other capture deliver skip size =
-    cond read (line.Call 0 (call.On 0 (on.Read size)))
-    (cond other (line.Call 1 (call.On 0 (on.Read size)))
+    cond read (line.Call (main_context 0) (call.On 0 (on.Read size)))
+    (cond other (line.Call (main_context 1) (call.On 0 (on.Read size)))
     (cond capture (line.Worker turn.Capture)
     (cond deliver (line.Worker turn.Deliver)
-    (cond skip (line.Call 0 (call.On 0 (on.Skip size))) (line.Call 1 (call.On 1 (on.PollRead size)))))))
+    (cond skip (line.Call (main_context 0) (call.On 0 (on.Skip size))) (line.Call (main_context 1) (call.On 1 (on.PollRead size)))))))
 
 reads : (read other capture deliver skip : Bool) (size : ℕ) → size < 64 → reading_of (text_by read other capture deliver skip size) ≡ Step (step_by read other capture deliver skip size)
 reads true other capture deliver skip size small = asks (λ last. codes "call" ∷ codes "0" ∷ codes "read" ∷ codes "0" ∷ last) (asked_by 0 0 on.Read) size small (λ last. refl)
@@ -159,7 +160,7 @@ steps_from (x ∷ numbers) names number are =
     ∙ ap (with_step step) (steps_from numbers (names_after names step) (number + 1) (still names (nat_eq kind 0) (nat_eq kind 1) (nat_eq kind 2) (nat_eq kind 3) (nat_eq kind 4) size are))
 
 abbrev with_opening : Parsed → Parsed
-with_opening rest = with_step (line.Guest 0 input.Shared) (with_step (line.Guest 1 input.Shared) (with_step (line.Call 0 (call.Open standard.Input access.Plain)) (with_step (line.Call 1 (call.Open standard.Input access.Plain)) (with_step (line.Call 1 (call.Open standard.Input access.Polled)) rest))))
+with_opening rest = with_step (line.Guest 0 input.Shared) (with_step (line.Guest 1 input.Shared) (with_step (line.Call (main_context 0) (call.Open standard.Input access.Plain)) (with_step (line.Call (main_context 1) (call.Open standard.Input access.Plain)) (with_step (line.Call (main_context 1) (call.Open standard.Input access.Polled)) rest))))
 
 pub is_valid : (number lines : ℕ) → parsed (generated_script number lines) ≡ Steps (generated_steps number lines)
 is_valid number lines = ap (λ rest. with_opening rest) (steps_from (numbers_of number lines) (names_end no_names opening_steps) 6 (refl, refl))

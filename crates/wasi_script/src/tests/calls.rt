@@ -4,8 +4,8 @@ ghost use Rattle.std.specs.Prelude.{◌≡◌, length, IfOk};
 
 use super::{bad_line, check_bytes, parsed};
 use crate::{
-    Access, Call, ClockCall, ClockSetting, EntryCall, ExitStatus, Line, OwnCall, RandomCall,
-    RandomSource, Script, Setting, Standard, WorkerTurn,
+    Access, Call, ClockCall, ClockSetting, Context, EntryCall, ExitStatus, Line, OwnCall,
+    RandomCall, RandomSource, Script, Setting, Standard, WorkerTurn,
 };
 use std::alloc::Global;
 use std::process::Abort;
@@ -27,18 +27,18 @@ fn each_call_is_a_step(rt: HostRuntime) -> Result<(), Fail> {
     assert!(rt;
         matches!(
             steps[1],
-            Line::Configure {
+            Line::Capacity {
                 guest: 7,
-                setting: Setting::Capacity(1)
+                capacity: 1
             }
         )
     );
     assert!(rt;
         matches!(
             steps[2],
-            Line::Configure {
+            Line::Capacity {
                 guest: 7,
-                setting: Setting::Capacity(65536)
+                capacity: 65536
             }
         )
     );
@@ -46,7 +46,10 @@ fn each_call_is_a_step(rt: HostRuntime) -> Result<(), Fail> {
         matches!(
             steps[3],
             Line::Call {
-                guest: 7,
+                context: Context {
+                    guest: 7,
+                    named: None
+                },
                 call: Call::Own(OwnCall::Exit {
                     status: ExitStatus::Ok
                 })
@@ -57,7 +60,10 @@ fn each_call_is_a_step(rt: HostRuntime) -> Result<(), Fail> {
         matches!(
             steps[4],
             Line::Call {
-                guest: 7,
+                context: Context {
+                    guest: 7,
+                    named: None
+                },
                 call: Call::Own(OwnCall::Exit {
                     status: ExitStatus::Err
                 })
@@ -68,7 +74,10 @@ fn each_call_is_a_step(rt: HostRuntime) -> Result<(), Fail> {
         matches!(
             steps[5],
             Line::Call {
-                guest: 7,
+                context: Context {
+                    guest: 7,
+                    named: None
+                },
                 call: Call::Own(OwnCall::ExitCode { code: 255 })
             }
         )
@@ -95,7 +104,10 @@ fn calls_on_inputs_are_steps(rt: HostRuntime) -> Result<(), Fail> {
         matches!(
             steps[1],
             Line::Call {
-                guest: 7,
+                context: Context {
+                    guest: 7,
+                    named: None
+                },
                 call: Call::Open {
                     stream: Standard::Input,
                     access: Access::Plain
@@ -107,7 +119,10 @@ fn calls_on_inputs_are_steps(rt: HostRuntime) -> Result<(), Fail> {
         matches!(
             steps[2],
             Line::Call {
-                guest: 7,
+                context: Context {
+                    guest: 7,
+                    named: None
+                },
                 call: Call::Open {
                     stream: Standard::Input,
                     access: Access::Polled
@@ -119,7 +134,10 @@ fn calls_on_inputs_are_steps(rt: HostRuntime) -> Result<(), Fail> {
         matches!(
             steps[3],
             Line::Call {
-                guest: 7,
+                context: Context {
+                    guest: 7,
+                    named: None
+                },
                 call: Call::On {
                     number: 0,
                     call: EntryCall::Read {
@@ -133,7 +151,10 @@ fn calls_on_inputs_are_steps(rt: HostRuntime) -> Result<(), Fail> {
         matches!(
             steps[4],
             Line::Call {
-                guest: 7,
+                context: Context {
+                    guest: 7,
+                    named: None
+                },
                 call: Call::On {
                     number: 0,
                     call: EntryCall::Skip { size: 4 }
@@ -145,7 +166,10 @@ fn calls_on_inputs_are_steps(rt: HostRuntime) -> Result<(), Fail> {
         matches!(
             steps[5],
             Line::Call {
-                guest: 7,
+                context: Context {
+                    guest: 7,
+                    named: None
+                },
                 call: Call::On {
                     number: 4,
                     call: EntryCall::PollRead { room: 0 }
@@ -169,7 +193,10 @@ fn calls_on_entries_are_steps(rt: HostRuntime) -> Result<(), Fail> {
         matches!(
             steps[1],
             Line::Call {
-                guest: 7,
+                context: Context {
+                    guest: 7,
+                    named: None
+                },
                 call: Call::On {
                     number: 7,
                     call: EntryCall::Subscribe
@@ -181,7 +208,10 @@ fn calls_on_entries_are_steps(rt: HostRuntime) -> Result<(), Fail> {
         matches!(
             steps[2],
             Line::Call {
-                guest: 7,
+                context: Context {
+                    guest: 7,
+                    named: None
+                },
                 call: Call::On {
                     number: 18446744073709551615,
                     call: EntryCall::Ready
@@ -193,7 +223,10 @@ fn calls_on_entries_are_steps(rt: HostRuntime) -> Result<(), Fail> {
         matches!(
             steps[3],
             Line::Call {
-                guest: 7,
+                context: Context {
+                    guest: 7,
+                    named: None
+                },
                 call: Call::On {
                     number: 0,
                     call: EntryCall::Block
@@ -205,7 +238,10 @@ fn calls_on_entries_are_steps(rt: HostRuntime) -> Result<(), Fail> {
         matches!(
             steps[4],
             Line::Call {
-                guest: 7,
+                context: Context {
+                    guest: 7,
+                    named: None
+                },
                 call: Call::Drop { number: 4294967296 }
             }
         )
@@ -223,7 +259,10 @@ fn outputs_are_asked_for(rt: HostRuntime) -> Result<(), Fail> {
         matches!(
             steps[1],
             Line::Call {
-                guest: 7,
+                context: Context {
+                    guest: 7,
+                    named: None
+                },
                 call: Call::Open {
                     stream: Standard::Output,
                     access: Access::Plain
@@ -235,7 +274,10 @@ fn outputs_are_asked_for(rt: HostRuntime) -> Result<(), Fail> {
         matches!(
             steps[2],
             Line::Call {
-                guest: 7,
+                context: Context {
+                    guest: 7,
+                    named: None
+                },
                 call: Call::Open {
                     stream: Standard::Error,
                     access: Access::Plain
@@ -247,7 +289,10 @@ fn outputs_are_asked_for(rt: HostRuntime) -> Result<(), Fail> {
         matches!(
             steps[3],
             Line::Call {
-                guest: 7,
+                context: Context {
+                    guest: 7,
+                    named: None
+                },
                 call: Call::Open {
                     stream: Standard::Output,
                     access: Access::Polled
@@ -259,7 +304,10 @@ fn outputs_are_asked_for(rt: HostRuntime) -> Result<(), Fail> {
         matches!(
             steps[4],
             Line::Call {
-                guest: 7,
+                context: Context {
+                    guest: 7,
+                    named: None
+                },
                 call: Call::Open {
                     stream: Standard::Error,
                     access: Access::Polled
@@ -280,7 +328,10 @@ fn calls_on_outputs_are_steps(rt: HostRuntime) -> Result<(), Fail> {
         matches!(
             steps[1],
             Line::Call {
-                guest: 7,
+                context: Context {
+                    guest: 7,
+                    named: None
+                },
                 call: Call::On {
                     number: 18446744073709551615,
                     call: EntryCall::CheckWrite
@@ -292,7 +343,10 @@ fn calls_on_outputs_are_steps(rt: HostRuntime) -> Result<(), Fail> {
         matches!(
             steps[2],
             Line::Call {
-                guest: 7,
+                context: Context {
+                    guest: 7,
+                    named: None
+                },
                 call: Call::On {
                     number: 8,
                     call: EntryCall::Flush
@@ -304,7 +358,10 @@ fn calls_on_outputs_are_steps(rt: HostRuntime) -> Result<(), Fail> {
         matches!(
             steps[3],
             Line::Call {
-                guest: 7,
+                context: Context {
+                    guest: 7,
+                    named: None
+                },
                 call: Call::On {
                     number: 9,
                     call: EntryCall::PollFlush
@@ -335,7 +392,10 @@ fn check_write(
     let script = only_call(rt, alloc, call)?;
     match script.line(1) {
         Line::Call {
-            guest: 7,
+            context: Context {
+                guest: 7,
+                named: None,
+            },
             call: Call::On {
                 number: given,
                 call: EntryCall::Write { bytes },
@@ -371,7 +431,10 @@ fn check_poll_write(
     let script = only_call(rt, alloc, call)?;
     match script.line(1) {
         Line::Call {
-            guest: 7,
+            context: Context {
+                guest: 7,
+                named: None,
+            },
             call: Call::On {
                 number: given,
                 call: EntryCall::PollWrite { bytes },
@@ -402,7 +465,10 @@ fn a_write_is_longer_than_a_stream(rt: HostRuntime) -> Result<(), Fail> {
     let script = only_call(&rt, rt.alloc(), &call)?;
     match script.line(1) {
         Line::Call {
-            guest: 7,
+            context: Context {
+                guest: 7,
+                named: None,
+            },
             call: Call::On {
                 number: 0,
                 call: EntryCall::Write { bytes },
@@ -442,7 +508,10 @@ fn calls_on_the_clocks(rt: HostRuntime) -> Result<(), Fail> {
             [
                 _,
                 Line::Call {
-                    guest: 3,
+                    context: Context {
+                        guest: 3,
+                        named: None,
+                    },
                     call: Call::Own(OwnCall::Clock(found)),
                 },
             ] => assert_eq!(rt; *found, want),
@@ -533,7 +602,10 @@ fn calls_on_the_random_sources(rt: HostRuntime) -> Result<(), Fail> {
             [
                 _,
                 Line::Call {
-                    guest: 3,
+                    context: Context {
+                        guest: 3,
+                        named: None,
+                    },
                     call: Call::Random(found),
                 },
             ] => assert_eq!(rt; *found, want),
@@ -569,7 +641,10 @@ fn lines_that_set_random_sources(rt: HostRuntime) -> Result<(), Fail> {
     check_seeded(&rt, fourth, RandomSource::Insecure, 7)?;
     match fifth {
         Line::Configure {
-            guest: 3,
+            context: Context {
+                guest: 3,
+                named: None,
+            },
             setting: Setting::InsecureSeed(seed),
         } => assert_eq!(rt; *seed, u128::MAX),
         _ => panic!(rt; "no seed"),
@@ -587,7 +662,10 @@ fn check_random(
 ) -> Result<(), Fail> {
     match line {
         Line::Configure {
-            guest: 3,
+            context: Context {
+                guest: 3,
+                named: None,
+            },
             setting: Setting::Random {
                 source,
                 bytes: found,
@@ -604,7 +682,10 @@ fn check_random(
 fn check_seeded(rt: &impl Abort, line: &Line, want: RandomSource, number: u64) -> Result<(), Fail> {
     match line {
         Line::Configure {
-            guest: 3,
+            context: Context {
+                guest: 3,
+                named: None,
+            },
             setting: Setting::Seeded { source, seed },
         } => {
             assert_eq!(rt; *source, want);
@@ -618,7 +699,10 @@ fn check_seeded(rt: &impl Abort, line: &Line, want: RandomSource, number: u64) -
 fn check_limit(rt: &impl Abort, line: &Line, want: u64) -> Result<(), Fail> {
     match line {
         Line::Configure {
-            guest: 3,
+            context: Context {
+                guest: 3,
+                named: None,
+            },
             setting: Setting::MaxRandom(size),
         } => assert_eq!(rt; *size, want),
         _ => panic!(rt; "no limit"),

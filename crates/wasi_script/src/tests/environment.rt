@@ -1,9 +1,10 @@
 //! What a guest finds at its start, and its terminals.
 
 use super::{bad_line, check_name, parsed};
-use crate::{Call, Input, Line, Output, OwnCall, Setting, Standard, Text};
+use crate::{Call, Context, Input, Line, Output, OwnCall, Setting, Standard};
 use std::process::Abort;
 use std::test::Fail;
+use wasi_base::Text;
 
 fn check_text(rt: &impl Abort, text: &Text, want: &str) {
     assert_eq!(rt; text.as_str(), want);
@@ -30,7 +31,10 @@ fn lines_that_set_an_environment(rt: HostRuntime) -> Result<(), Fail> {
 fn check_env(rt: &impl Abort, line: &Line, key: &str, value: &str) {
     match line {
         Line::Configure {
-            guest: 3,
+            context: Context {
+                guest: 3,
+                named: None,
+            },
             setting: Setting::Env {
                 key: its_key,
                 value: its_value,
@@ -46,7 +50,10 @@ fn check_env(rt: &impl Abort, line: &Line, key: &str, value: &str) {
 fn check_arg(rt: &impl Abort, line: &Line, want: &str) {
     match line {
         Line::Configure {
-            guest: 3,
+            context: Context {
+                guest: 3,
+                named: None,
+            },
             setting: Setting::Arg(text),
         } => check_text(rt, text, want),
         _ => panic!(rt; "no argument"),
@@ -56,7 +63,10 @@ fn check_arg(rt: &impl Abort, line: &Line, want: &str) {
 fn check_cwd(rt: &impl Abort, line: &Line, want: &str) {
     match line {
         Line::Configure {
-            guest: 3,
+            context: Context {
+                guest: 3,
+                named: None,
+            },
             setting: Setting::Cwd(text),
         } => check_text(rt, text, want),
         _ => panic!(rt; "no directory"),
@@ -93,7 +103,10 @@ fn check_terminal_input(rt: &impl Abort, line: &Line) {
 fn its_stdout<'a>(rt: &impl Abort, line: &'a Line) -> &'a Output {
     match line {
         Line::Configure {
-            guest: 3,
+            context: Context {
+                guest: 3,
+                named: None,
+            },
             setting: Setting::Stdout(output),
         } => output,
         _ => panic!(rt; "no standard output"),
@@ -103,7 +116,10 @@ fn its_stdout<'a>(rt: &impl Abort, line: &'a Line) -> &'a Output {
 fn its_stderr<'a>(rt: &impl Abort, line: &'a Line) -> &'a Output {
     match line {
         Line::Configure {
-            guest: 3,
+            context: Context {
+                guest: 3,
+                named: None,
+            },
             setting: Setting::Stderr(output),
         } => output,
         _ => panic!(rt; "no standard error"),
@@ -136,7 +152,13 @@ fn calls_for_an_environment_and_for_terminals(rt: HostRuntime) -> Result<(), Fai
 
 fn its_call<'a>(rt: &impl Abort, line: &'a Line) -> &'a Call {
     match line {
-        Line::Call { guest: 3, call } => call,
+        Line::Call {
+            context: Context {
+                guest: 3,
+                named: None,
+            },
+            call,
+        } => call,
         _ => panic!(rt; "no call"),
     }
 }

@@ -7,7 +7,7 @@ use std::process::Abort;
 use std::test::Fail;
 
 // Each of these lines is bad after these others.
-fn check_bad(
+pub fn check_bad(
     rt: &impl Abort,
     alloc: Global,
     before: &str,
@@ -41,7 +41,7 @@ fn a_bad_line_is_told_by_its_number(rt: HostRuntime) -> Result<(), Fail> {
         "capacity 0 1",
         "stdout 0 empty",
         "stderr 0 sink",
-        "tree A",
+        "trees A",
     ];
     for line in bad_lines {
         check_bad(&rt, rt.alloc(), "# note\n\n", line, 3)?;

@@ -196,3 +196,34 @@ module _ {E : Type 0} where
       given_at : (q : ℕ) → (eqb q n ≡ true) ⊎ ((eqb q n ≡ false) × IsSome (held_at t q)) → q < t.next
       given_at q (inl equal) = s.given q (ap (λ x. is_some (held_at t x)) (eqb-true q n equal) ∙ live)
       given_at q (inr old) = s.given q old.1
+
+  -- the greatest number ever given, which is free, was the last to be freed
+  below_last : (t after : Table E) (n : ℕ) (ns : List ℕ) → after.entries ≡ t.entries → n + 1 ≡ t.next → after.next ≡ n → AreFree t ns → list_any (eqb n) ns ≡ false → AreFree after ns
+  below_last t after n [] same last is free apart = tt
+  below_last t after n (m ∷ ns) same last is free apart = by (below_last t after n ns same last is free.3) (eqb n m) refl apart
+    where
+      by : (list_any (eqb n) ns ≡ false → AreFree after ns) → (b : Bool) → eqb n m ≡ b → (b || list_any (eqb n) ns) ≡ false → AreFree after (m ∷ ns)
+      by rest true equal apart = absurd (true≢false apart)
+      by rest false other apart =
+          let below : m < t.next = free.1 in
+          let differs : n ≢ m = eqb-false n m other in
+          (ap (λ entries. map.get entries m) same ∙ free.0, omega (arith, below, differs, last, is), free.2, rest apart)
+
+  pub last_ungiven : (m : map.FinMap nat_cmp (Held E)) (n : ℕ) (freed : List ℕ) (next capacity : ℕ) → n + 1 ≡ next → IsTable {E = E} (record { entries = m; freed = n ∷ freed; next = next; capacity = capacity }) → IsTable {E = E} (record { entries = m; freed = freed; next = n; capacity = capacity })
+  last_ungiven m n freed next capacity last s =
+      let t : Table E = record { entries = m; freed = n ∷ freed; next = next; capacity = capacity } in
+      let after : Table E = record { entries = m; freed = freed; next = n; capacity = capacity } in
+      let counted : live_count t + length (n ∷ freed) ≡ next = s.counted in
+      let within : next ≤ capacity = s.within in
+      record {
+        free = below_last t after n freed refl last refl s.free.3 s.free.2;
+        given = λ q live.
+            let below : q < next = s.given q live in
+            let differs : q ≢ n = (λ same. both_ways (is_some (held_at t n)) (ap is_some s.free.0) (ap (λ x. is_some (held_at t x)) (sym same) ∙ live)) in
+            omega (arith, below, differs, last);
+        counted = omega (arith, counted, last);
+        room = s.room;
+        within = omega (arith, within, last);
+        not_empty = s.not_empty;
+        bound = s.bound;
+      }

@@ -8,7 +8,7 @@ use Rattle.wasi_reply.specs.Reply.{reply_line}
 use Rattle.wasi_reply.specs.Outputs.{output_lines}
 use Rattle.wasi_host.specs.Host.{Host, reply_to}
 use Rattle.wasi_host.specs.Transcript.{outputs_of}
-use Rattle.wasi_host.specs.laws.Steps.{stand_on, names_new, guests_new, places_step, count_step}
+use Rattle.wasi_host.specs.laws.Steps.{stand_on, names_new, places_step, count_step}
 use Rattle.wasi_session.specs.Reading.{replies_to, closing_lines}
 use Rattle.wasi_session.proofs.LoopFacts.{one_after, line_after, after_all}
 use Rattle.wasi_session.proofs.CountFacts.{one_on, none_left}
@@ -20,7 +20,6 @@ loop-line-init g c = record {
   few = omega arith;
   stand = rw (c.in_ok-session.ensures, names_new) c.requires.stand;
   places = rw c.in_ok-session.ensures refl;
-  guests = rw c.in_ok-session.ensures guests_new;
   deliveries = rw c.in_ok-session.ensures (omega arith);
   first = λ t e. record { now_is = e; host_is = rw c.in_ok-session.ensures refl };
   text = λ t e. refl;
@@ -37,15 +36,14 @@ loop-line-preserved g c =
     let line : Line = c.in-Some.line in
     let on = one_on steps i line c.next.new.self (c.loop-line.invariant.rest ∙ c.in-Some.ensures.steps) in
     let is = c.in_ok-one_step.ensures.step in
-    let next = stand_on old new given steps i line on.0 on.1 c.loop-line.invariant.places c.loop-line.invariant.guests c.loop-line.invariant.stand is.host_is in
+    let next = stand_on old new given steps i line on.0 on.1 c.loop-line.invariant.places c.loop-line.invariant.stand is.host_is in
     let answer = reply_to line old given in
     let long : vec_len c.one_step.new.text ≡ length c.one_step.new.text.items = search rules in
     let line_is : c.len.result ≡ length (reply_line answer) = c.len.ensures ∙ long ∙ ap length c.in_ok-one_step.ensures.text in
     record {
       rest = on.2;
       few = omega (arith, on.0);
-      stand = next.0;
-      guests = next.1;
+      stand = next;
       places = rw is.host_is (places_step line old given ∙ c.loop-line.invariant.places);
       deliveries = rw is.host_is (omega (arith, count_step line old given, c.loop-line.invariant.deliveries));
       first = λ t e. one_after _ _ old new steps i line _ _ _ on.0 on.1 (c.loop-line.invariant.first t e) is;

@@ -1,7 +1,7 @@
 use Rattle.std.proofs.Common.{◌≡◌, ◌∙◌, ◌++◌, get_or, refl, sym, ap, arith}
 use Rattle.wasi_stdin.specs.Shared.{given_now}
 use Rattle.wasi_script.specs.declared.lines.Line.{Line}
-use Rattle.wasi_host.specs.laws.Steps.{stand_on, names_new, guests_new, places_step, count_step}
+use Rattle.wasi_host.specs.laws.Steps.{stand_on, names_new, places_step, count_step}
 use Rattle.wasi_reply.specs.Reply.{reply_line}
 use Rattle.wasi_reply.specs.Outputs.{output_lines}
 use Rattle.wasi_host.specs.Host.{reply_to}
@@ -14,7 +14,6 @@ pub loop-line-init : goal.loop-line-init
 loop-line-init g c = record {
   stand = rw (c.in_ok-session.ensures, names_new) c.requires;
   places = rw c.in_ok-session.ensures refl;
-  guests = rw c.in_ok-session.ensures guests_new;
   count = rw c.in_ok-session.ensures (omega arith);
   first = λ t e. record { now_is = e; host_is = rw c.in_ok-session.ensures refl };
   out = λ t e. with_more-nothing _;
@@ -31,11 +30,10 @@ loop-line-preserved g c =
     let line : Line = c.line-item.result in
     let at : get_or steps i line ≡ line = sym c.line-item.is in
     let is = c.in_ok-step.ensures.step in
-    let next = stand_on old new given steps i line c.loop-line-test.true at c.loop-line.invariant.places c.loop-line.invariant.guests c.loop-line.invariant.stand is.host_is in
+    let next = stand_on old new given steps i line c.loop-line-test.true at c.loop-line.invariant.places c.loop-line.invariant.stand is.host_is in
     let text_is = c.deref.ensures.value ∙ c.in_ok-step.ensures.text ∙ ap (λ text. text ++ reply_line (reply_to line old given)) c.clear.ensures.items in
     record {
-      stand = next.0;
-      guests = next.1;
+      stand = next;
       places = rw is.host_is (places_step line old given ∙ c.loop-line.invariant.places);
       count = rw is.host_is (omega (arith, count_step line old given));
       first = λ t e. one_after _ _ old new steps i line _ _ _ c.loop-line-test.true at (c.loop-line.invariant.first t e) is;

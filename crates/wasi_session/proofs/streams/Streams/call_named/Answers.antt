@@ -19,17 +19,17 @@ returns-clause-deed c = elim c.match-get_mut.branch [
 
 pub returns-clause-left : goal.returns-clause-left
 returns-clause-left c =
-    let whole : Named InStream → Streams = λ named. record { inputs = named; outputs = rows_of c.self.inside.outputs.entries } in
+    let whole : Named InStream → Streams = λ named. record { inputs = named; outputs = rows_of c.self.inside.outputs.entries; trees = c.self.inside.trees } in
     elim c.match-get_mut.branch [
       | in-Some w ↦
-          rw (w.result-is, w.self-inside-is, ← c.self.view_is) (left_there whole in_stream.Closed w.called.result c.self.inside.inputs.entries _ c.args.name.now w.in-Some.stream.now w.called.new.stream (λ it. (called c.args.call.now c.args.at c.args.entry it).left) (rw w.in-Some.is at c.get_mut.ensures.value) (c.get_mut.follows.holds w.called.new.stream).0 w.called.ensures.left)
+          rw (w.result-is, w.self-inside-is, ← c.self.view_is) (left_there whole in_stream.Closed w.called.result c.self.inside.inputs.entries _ c.args.name.now w.in-Some.stream.now w.called.new.stream (λ it. (called c.args.call.now c.args.context c.args.at c.args.entry it).left) (rw w.in-Some.is at c.get_mut.ensures.value) (c.get_mut.follows.holds w.called.new.stream).0 w.called.ensures.left)
       | in-None w ↦
           rw (w.result-is, w.self-inside-is, ← c.self.view_is) (left_none whole in_stream.Closed w.called_closed.result c.self.inside.inputs.entries _ c.args.name.now _ (rw w.in-None.is at c.get_mut.ensures.value) (ap (λ rows. rows.entries) c.get_mut.follows.holds-at-none))
     ]
 
 pub returns-clause-made : goal.returns-clause-made
 returns-clause-made c =
-    let whole : Named InStream → Streams = λ named. record { inputs = named; outputs = rows_of c.self.inside.outputs.entries } in
+    let whole : Named InStream → Streams = λ named. record { inputs = named; outputs = rows_of c.self.inside.outputs.entries; trees = c.self.inside.trees } in
     elim c.match-get_mut.branch [
       | in-Some w ↦
           rw (w.result-is, w.self-inside-is, ← c.self.view_is) (made_there whole in_stream.Closed w.called.result c.self.inside.inputs.entries _ c.args.name.now IsMake w.in-Some.stream.now w.called.new.stream (rw w.in-Some.is at c.get_mut.ensures.value) (c.get_mut.follows.holds w.called.new.stream).0 w.called.ensures.made)
@@ -39,7 +39,7 @@ returns-clause-made c =
 
 pub returns-clause-err : goal.returns-clause-err
 returns-clause-err c =
-    let whole : Named InStream → Streams = λ named. record { inputs = named; outputs = rows_of c.self.inside.outputs.entries } in
+    let whole : Named InStream → Streams = λ named. record { inputs = named; outputs = rows_of c.self.inside.outputs.entries; trees = c.self.inside.trees } in
     elim c.match-get_mut.branch [
       | in-Some w ↦
           rw (w.result-is, w.self-inside-is, ← c.self.view_is) (err_there whole in_stream.Closed w.called.result c.self.inside.inputs.entries _ c.args.name.now w.in-Some.stream.now w.called.new.stream (rw w.in-Some.is at c.get_mut.ensures.value) (c.get_mut.follows.holds w.called.new.stream).0 w.called.ensures.err)

@@ -12,7 +12,7 @@ pub returns : goal.returns
 returns c =
     let es = c.self.inside.inputs.entries in
     let name = c.args.name.now in
-    let whole : Named InStream → Streams = λ named. record { inputs = named; outputs = rows_of c.self.inside.outputs.entries } in
+    let whole : Named InStream → Streams = λ named. record { inputs = named; outputs = rows_of c.self.inside.outputs.entries; trees = c.self.inside.trees } in
     elim c.match-get_mut.branch [
       | in-Some w ↦
           let found = row_there in_stream.Closed es name w.in-Some.stream.now (rw w.in-Some.is at c.get_mut.ensures.value) in

@@ -12,7 +12,7 @@ pub returns : goal.returns
 returns c =
     let es = c.self.inside.outputs.entries in
     let name = c.args.name.now in
-    let whole : Named OutStream → Streams = λ named. record { inputs = rows_of c.self.inside.inputs.entries; outputs = named } in
+    let whole : Named OutStream → Streams = λ named. record { inputs = rows_of c.self.inside.inputs.entries; outputs = named; trees = c.self.inside.trees } in
     elim c.match-get_mut.branch [
       | in-Some w ↦
           let found = row_there out_stream.Closed es name w.in-Some.stream.now (rw w.in-Some.is at c.get_mut.ensures.value) in

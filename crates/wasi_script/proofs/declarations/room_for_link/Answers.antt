@@ -1,0 +1,7 @@
+use Rattle.std.proofs.Common.{◌∙◌, refl, sym}
+use Rattle.wasi_fs.specs.Calls.{link_added}
+use Rattle.wasi_script.proofs.TreeFacts.{is_allowed}
+use Rattle.wasi_script.proofs.declarations.room_for_link.Goals as goal
+
+pub returns : goal.returns
+returns c = λ now. c.is_ok.ensures.value ∙ is_allowed (link_added c.args.tree.now.nodes c.args.path.now c.args.text.now now) c.may_add.result (c.may_add.ensures.link c.args.text.now now refl)
