@@ -4,10 +4,10 @@ use Rattle.wasi_fs_types.specs.declared.error_code.ErrorCode.{ErrorCode}
 use Rattle.wasi_fs_nodes.specs.Shape.{KindsStay}
 use Rattle.wasi_fs_nodes.specs.declared.node.Node.{Node}
 use Rattle.wasi_fs_nodes.specs.declared.node.Kind.TheVariants as kind
-use Rattle.wasi_fs.specs.Trees.{TreeState, with_nodes, KeepsDescriptors}
+use Rattle.wasi_fs.specs.Trees.{TreeState, with_nodes, IsOf, KeepsDescriptors}
 use Rattle.wasi_fs.specs.declared.descriptor.Descriptor.{Descriptor}
 use Rattle.wasi_fs.specs.declared.descriptor.Descriptor.TheVariants as descriptor
-use Rattle.wasi_fs_calls.specs.Rule.{looks, changes, opens}
+use Rattle.wasi_fs_calls.specs.Rule.{Outcome, looks, changes, opens, IsMadeIn}
 use Rattle.wasi_fs_calls.specs.declared.answers.DescriptorTold.{DescriptorTold}
 
 kept_by_kinds : (tree : TreeState) (nodes : List Node) → KindsStay tree.nodes nodes → KeepsDescriptors tree (with_nodes tree nodes)
@@ -25,3 +25,19 @@ changes_kept tree (Err code) k = λ at h. h
 pub opens_kept : (tree : TreeState) (outcome : Result (Descriptor × List Node) ErrorCode) → IfOk outcome (λ it. KindsStay tree.nodes it.1) → KeepsDescriptors tree (opens tree outcome).left
 opens_kept tree (Ok it) k = kept_by_kinds tree it.1 k
 opens_kept tree (Err code) k = λ at h. h
+
+-- what is made is of the tree
+abbrev pub IsMade : Outcome → Type 0
+IsMade it = IsMadeIn it.left it.answer
+
+pub looks_made : {A : Type 0} (tell : A → DescriptorTold) (tree : TreeState) (outcome : Result A ErrorCode) → IsMade (looks tell tree outcome)
+looks_made tell tree (Ok a) = tt
+looks_made tell tree (Err code) = tt
+
+pub changes_made : (tree : TreeState) (outcome : Result (List Node) ErrorCode) → IsMade (changes tree outcome)
+changes_made tree (Ok nodes) = tt
+changes_made tree (Err code) = tt
+
+pub opens_made : (tree : TreeState) (outcome : Result (Descriptor × List Node) ErrorCode) → IfOk outcome (λ it. IsOf (with_nodes tree it.1) it.0) → IsMade (opens tree outcome)
+opens_made tree (Ok it) of_tree = of_tree
+opens_made tree (Err code) of_tree = tt

@@ -1,4 +1,4 @@
-ghost use Rattle.std.specs.Prelude.{◌≡◌, ◌≤◌, Some, IfOk, OnOk, OnErr, true, false};
+ghost use Rattle.std.specs.Prelude.{◌≡◌, ◌<◌, ◌≤◌, ℕ, pos, Some, IfOk, OnOk, OnErr, true, false};
 ghost use Rattle.wasi_reply.specs.Reply.{ends};
 ghost use Rattle.wasi_host.specs.Calls.{opened, stream_entry, owned, exit_status};
 ghost use Rattle.wasi_host.specs.Deeds.{entry_at};
@@ -18,8 +18,8 @@ use crate::shared;
 use crate::streams::Streams;
 use std::alloc::Global;
 use std::marker::Model;
-use wasi_base::{OutOfMemory, TrapText};
-use wasi_cli::{Owner, StdioHandle, StdoutHandle};
+use wasi_base::{I32Exit, OutOfMemory, TrapText};
+use wasi_cli::{Owner, StdioHandle, StdoutHandle, exit, exit_with_code};
 use wasi_host::{Clocks, Deed, Entry, Leaver, SharedEntry, StreamEntry};
 use wasi_reply::{Reply, Told};
 use wasi_script::{
@@ -329,8 +329,8 @@ impl Guest {
     {
         let settings = self.contexts.settings(context);
         match call {
-            OwnCall::Exit { status } => Ok(Deed::Tell(Told::Exit(exit_status(*status)))),
-            OwnCall::ExitCode { code } => Ok(Deed::Tell(Told::Exit(*code))),
+            OwnCall::Exit { status } => Ok(Deed::Tell(exit_told(exited(*status)))),
+            OwnCall::ExitCode { code } => Ok(Deed::Tell(exit_told(exit_with_code(*code)))),
             OwnCall::Clock(call) => Ok(clocked(clocks, *call)),
             OwnCall::Environment => Ok(Deed::Tell(environment_told(alloc, settings)?)),
             OwnCall::Arguments => Ok(Deed::Tell(arguments_told(alloc, settings)?)),
@@ -370,11 +370,19 @@ fn stream_entry(access: Access) -> StreamEntry
     }
 }
 
-fn exit_status(status: ExitStatus) -> u8
-    ensures { result ≡ exit_status status }
+// the exit of a guest that ends itself well or badly
+fn exited(status: ExitStatus) -> I32Exit
+    ensures { result.0 ≡ pos (exit_status status) }
 {
     match status {
-        ExitStatus::Ok => 0,
-        ExitStatus::Err => 1,
+        ExitStatus::Ok => exit(Ok(())),
+        ExitStatus::Err => exit(Err(())),
     }
+}
+
+// .. and what is told of an exit
+fn exit_told(exit: I32Exit) -> Told
+    ensures { (code : ℕ) → code < 256 → exit.0 ≡ pos code → result ≡ Told.Exit code }
+{
+    Told::Exit(exit.0 as u8)
 }
