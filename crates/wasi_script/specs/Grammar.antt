@@ -178,7 +178,7 @@ random_calls =
     ∷ []
 
 abbrev pub call_of : List (List ℕ) → Option Call
-call_of = meaning_by (open_calls ++ (entry_calls ++ (descriptor_calls ++ (path_calls ++ (pair_calls ++ (other_calls ++ (clock_calls ++ (random_calls ++ terminal_calls))))))))
+call_of = meaning_by (open_calls ++ (entry_calls ++ (random_calls ++ (descriptor_calls ++ (path_calls ++ (pair_calls ++ (other_calls ++ (clock_calls ++ terminal_calls))))))))
 
 -- the steps' fields
 abbrev pub pipe_of : List (List ℕ) → Option Line

@@ -1,7 +1,7 @@
 ghost use Rattle.std.specs.Prelude.{◌≡◌, ◌∷◌, ◌++◌};
 ghost use Rattle.wasi_script.specs.Bytes.{text_of};
 ghost use Rattle.wasi_script.specs.Fields.{number_of, two_fields};
-ghost use Rattle.wasi_script.specs.Grammar.{meaning_by, other_calls, clock_calls, random_calls, terminal_calls};
+ghost use Rattle.wasi_script.specs.Grammar.{meaning_by, other_calls, clock_calls, terminal_calls};
 ghost use Rattle.wasi_script.specs.Descriptors.{descriptor_calls, path_calls, pair_calls, on_descriptor as on_descriptor_of, path_fields, advise_of, set_times_of, set_times_at_of, open_at_of, symlink_at_of, link_at_of, rename_at_of, is_same_object_of};
 ghost use Rattle.wasi_script.specs.Reads.{Reads};
 ghost use Rattle.wasi_script.specs.declared.lines.Call.TheVariants as call;
@@ -21,7 +21,7 @@ use wasi_words::{Parts, is, only, parse_number};
 
 /// A call on one descriptor itself, or another one.
 pub fn parse_descriptor_call(alloc: Global, name: &[u8], words: Parts) -> Result<Call, Refusal>
-    ensures { Reads result (meaning_by (descriptor_calls ++ (path_calls ++ (pair_calls ++ (other_calls ++ (clock_calls ++ (random_calls ++ terminal_calls)))))) (name.now ∷ words.entry)) }
+    ensures { Reads result (meaning_by (descriptor_calls ++ (path_calls ++ (pair_calls ++ (other_calls ++ (clock_calls ++ terminal_calls))))) (name.now ∷ words.entry)) }
 {
     if is(name, b"advise") {
         parse_advise_call(words).ok_or(Refusal::Invalid)
@@ -49,7 +49,7 @@ pub fn parse_descriptor_call(alloc: Global, name: &[u8], words: Parts) -> Result
 
 // a call on what a path names below a descriptor, or another one
 fn parse_path_call(alloc: Global, name: &[u8], words: Parts) -> Result<Call, Refusal>
-    ensures { Reads result (meaning_by (path_calls ++ (pair_calls ++ (other_calls ++ (clock_calls ++ (random_calls ++ terminal_calls))))) (name.now ∷ words.entry)) }
+    ensures { Reads result (meaning_by (path_calls ++ (pair_calls ++ (other_calls ++ (clock_calls ++ terminal_calls)))) (name.now ∷ words.entry)) }
 {
     if is(name, b"set-times-at") {
         parse_set_times_at(alloc, words)
@@ -82,7 +82,7 @@ fn parse_path_call(alloc: Global, name: &[u8], words: Parts) -> Result<Call, Ref
 
 // a call on two descriptors, or another one
 fn parse_pair_call(alloc: Global, name: &[u8], words: Parts) -> Result<Call, Refusal>
-    ensures { Reads result (meaning_by (pair_calls ++ (other_calls ++ (clock_calls ++ (random_calls ++ terminal_calls)))) (name.now ∷ words.entry)) }
+    ensures { Reads result (meaning_by (pair_calls ++ (other_calls ++ (clock_calls ++ terminal_calls))) (name.now ∷ words.entry)) }
 {
     if is(name, b"link-at") {
         parse_link_at(alloc, words)

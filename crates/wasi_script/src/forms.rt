@@ -1,7 +1,7 @@
 ghost use Rattle.std.specs.Prelude.{◌≡◌, ◌∷◌, ◌++◌, IfOk};
 ghost use Rattle.wasi_script.specs.Grammar.{meaning_by, without_fields, entry_calls, other_calls, clock_calls, random_calls, terminal_calls, clock_settings, on_clocks, on_random, source_of_word, source_set, other_lines, setting_lines, tree_lines, call_of, line_of, pipe_of, source_fields, out_pipe_of, sink_fields, buffered_of, turn_of, clock_of, guest_line_of, context_line_of, capacity_line_of, env_of, call_line_of, on_number as on_number_of, reading_of, exit_of, input_of, output_of, named_output};
 ghost use Rattle.wasi_script.specs.Descriptors.{descriptor_calls, path_calls, pair_calls};
-ghost use Rattle.wasi_script.specs.Fields.{with_first, two_fields, number_of, u128_of};
+ghost use Rattle.wasi_script.specs.Fields.{with_first, with_last, two_fields, number_of, u128_of};
 ghost use Rattle.wasi_script.specs.Contexts.{context_of};
 ghost use Rattle.wasi_script.specs.Name.{name_of};
 ghost use Rattle.wasi_script.specs.declared.lines.Setting.TheVariants as setting;
@@ -400,7 +400,7 @@ fn open(words: Parts, stream: Standard, access: Access) -> Result<Call, Refusal>
 
 // a call on the entry of a number, or another one
 fn parse_entry_call(alloc: Global, name: &[u8], words: Parts) -> Result<Call, Refusal>
-    ensures { Reads result (meaning_by (entry_calls ++ (descriptor_calls ++ (path_calls ++ (pair_calls ++ (other_calls ++ (clock_calls ++ (random_calls ++ terminal_calls))))))) (name.now ∷ words.entry)) }
+    ensures { Reads result (meaning_by (entry_calls ++ (random_calls ++ (descriptor_calls ++ (path_calls ++ (pair_calls ++ (other_calls ++ (clock_calls ++ terminal_calls))))))) (name.now ∷ words.entry)) }
 {
     if is(name, b"read") {
         let (number, size) = number_and_number(words)?;
@@ -430,8 +430,44 @@ fn parse_entry_call(alloc: Global, name: &[u8], words: Parts) -> Result<Call, Re
     } else if is(name, b"block") {
         on_number(words, EntryCall::Block)
     } else {
+        parse_random_call(alloc, name, words)
+    }
+}
+
+// a call on the random sources, or another one
+fn parse_random_call(alloc: Global, name: &[u8], words: Parts) -> Result<Call, Refusal>
+    ensures { Reads result (meaning_by (random_calls ++ (descriptor_calls ++ (path_calls ++ (pair_calls ++ (other_calls ++ (clock_calls ++ terminal_calls)))))) (name.now ∷ words.entry)) }
+{
+    if is(name, b"random-bytes") {
+        let count = only_number(words).ok_or(Refusal::Invalid)?;
+        Ok(random_bytes(RandomSource::Secure, count))
+    } else if is(name, b"insecure-bytes") {
+        let count = only_number(words).ok_or(Refusal::Invalid)?;
+        Ok(random_bytes(RandomSource::Insecure, count))
+    } else if is(name, b"p3-random-bytes") {
+        let count = only_number(words).ok_or(Refusal::Invalid)?;
+        Ok(random_bytes_up_to(RandomSource::Secure, count))
+    } else if is(name, b"p3-insecure-bytes") {
+        let count = only_number(words).ok_or(Refusal::Invalid)?;
+        Ok(random_bytes_up_to(RandomSource::Insecure, count))
+    } else if is(name, b"random-u64") {
+        let source = RandomSource::Secure;
+        on_random(words, RandomCall::Number { source }).ok_or(Refusal::Invalid)
+    } else if is(name, b"insecure-u64") {
+        let source = RandomSource::Insecure;
+        on_random(words, RandomCall::Number { source }).ok_or(Refusal::Invalid)
+    } else if is(name, b"insecure-seed") {
+        on_random(words, RandomCall::InsecureSeed).ok_or(Refusal::Invalid)
+    } else {
         parse_descriptor_call(alloc, name, words)
     }
+}
+
+// a number, and no more
+fn only_number(words: Parts) -> Option<u64>
+    ensures { result ≡ with_last number_of (λ number. number) words.entry }
+{
+    parse_number(only(words)?)
 }
 
 fn on(number: u64, it: EntryCall) -> Call
@@ -472,7 +508,7 @@ fn number_and_bytes(alloc: Global, mut words: Parts) -> Result<(u64, ByteString)
 
 /// A call on an entry of any kind, or on none.
 pub fn parse_other_call(name: &[u8], words: Parts) -> Option<Call>
-    ensures { result ≡ meaning_by (other_calls ++ (clock_calls ++ (random_calls ++ terminal_calls))) (name.now ∷ words.entry) }
+    ensures { result ≡ meaning_by (other_calls ++ (clock_calls ++ terminal_calls)) (name.now ∷ words.entry) }
 {
     if is(name, b"drop") {
         let number = parse_number(only(words)?)?;
@@ -496,9 +532,9 @@ pub fn parse_other_call(name: &[u8], words: Parts) -> Option<Call>
     }
 }
 
-// a call on the clocks, on the random sources or on a terminal
+// a call on the clocks or on a terminal
 fn parse_clock_call(name: &[u8], words: Parts) -> Option<Call>
-    ensures { result ≡ meaning_by (clock_calls ++ (random_calls ++ terminal_calls)) (name.now ∷ words.entry) }
+    ensures { result ≡ meaning_by (clock_calls ++ terminal_calls) (name.now ∷ words.entry) }
 {
     if is(name, b"wall-now") {
         on_clocks(words, ClockCall::WallNow)
@@ -524,35 +560,6 @@ fn parse_clock_call(name: &[u8], words: Parts) -> Option<Call>
     } else if is(name, b"wait-for") {
         let duration = parse_number(only(words)?)?;
         Some(clock(ClockCall::WaitFor { duration }))
-    } else {
-        parse_random_call(name, words)
-    }
-}
-
-// a call on the random sources or on a terminal
-fn parse_random_call(name: &[u8], words: Parts) -> Option<Call>
-    ensures { result ≡ meaning_by (random_calls ++ terminal_calls) (name.now ∷ words.entry) }
-{
-    if is(name, b"random-bytes") {
-        let count = parse_number(only(words)?)?;
-        Some(random_bytes(RandomSource::Secure, count))
-    } else if is(name, b"insecure-bytes") {
-        let count = parse_number(only(words)?)?;
-        Some(random_bytes(RandomSource::Insecure, count))
-    } else if is(name, b"p3-random-bytes") {
-        let count = parse_number(only(words)?)?;
-        Some(random_bytes_up_to(RandomSource::Secure, count))
-    } else if is(name, b"p3-insecure-bytes") {
-        let count = parse_number(only(words)?)?;
-        Some(random_bytes_up_to(RandomSource::Insecure, count))
-    } else if is(name, b"random-u64") {
-        let source = RandomSource::Secure;
-        on_random(words, RandomCall::Number { source })
-    } else if is(name, b"insecure-u64") {
-        let source = RandomSource::Insecure;
-        on_random(words, RandomCall::Number { source })
-    } else if is(name, b"insecure-seed") {
-        on_random(words, RandomCall::InsecureSeed)
     } else {
         parse_terminal_call(name, words)
     }
