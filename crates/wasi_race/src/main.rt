@@ -1,6 +1,7 @@
 //! Two readers and a worker, each in a thread of its own, on the one input in a file.
 #![tactic(auto)]
 
+mod batch;
 mod outcome;
 mod race;
 mod reader;

@@ -4,7 +4,7 @@ ghost use Rattle.wasi_race.specs.History.{IsReader, pieces_in, is_done, last_in}
 ghost use Rattle.wasi_race.specs.Races.{IsRaced};
 ghost use Rattle.wasi_race.specs.Refusals.{OnSpawnFault, OnMismatch};
 ghost use Rattle.wasi_race.specs.Words.{AreSizes};
-ghost use Rattle.wasi_threads.specs.Collects.{IsCollected};
+ghost use Rattle.wasi_threads.specs.Collects.{IsCollected, handed_out};
 ghost use Rattle.wasi_threads.specs.Rounds.{Worked};
 
 use crate::outcome::{Last, last_of};
@@ -15,7 +15,7 @@ use std::alloc::Global;
 use std::sync::ledger::{Blank, Ledger};
 use wasi_base::{OutOfMemory, Source};
 use wasi_threads::{
-    CollectError, Collected, Entry, Pass, SharedStdin, Worker, deliveries_keep_the_input,
+    CollectError, Entry, Gathered, Pass, SharedStdin, Worker, deliveries_keep_the_input,
 };
 
 /// Why a race did not come to its end.
@@ -170,8 +170,8 @@ fn settle<L: Ledger, S: Source + Drop>(
     worker: Worker<S, L>,
     first: Pass<L>,
     second: Pass<L>,
-) -> Result<Collected<S>, RaceError>
-    ensures collected { IfOk result (λ c. IsCollected worker.pass (first ∷ second ∷ []) c.history.items c.pieces c.held) }
+) -> Result<Gathered<S>, RaceError>
+    ensures collected { IfOk result (λ c. IsCollected worker.pass (first ∷ second ∷ []) c.history.items (handed_out c.history.items) c.held) }
     ensures source { IfOk result (λ c. c.source ≡ worker.source) }
     ensures ran { IfErr result (λ e. OnSpawnFault e ⊥) }
 {
@@ -180,7 +180,7 @@ fn settle<L: Ledger, S: Source + Drop>(
     };
     passes.push_reserved(first);
     passes.push_reserved(second);
-    match shared.collect(passes, worker) {
+    match shared.gather(passes, worker) {
         Ok(found) => Ok(found),
         Err(CollectError::Mismatch { .. } | CollectError::Open { .. }) => Err(RaceError::Mismatch),
         Err(CollectError::OutOfMemory) => Err(RaceError::OutOfMemory),

@@ -7,14 +7,15 @@ ghost use Rattle.wasi_race.specs.Races.{IsShown, race_text};
 ghost use Rattle.wasi_race.specs.Words.{sizes_in};
 ghost use Rattle.wasi_race.specs.declared.words.Sizes.{Sizes};
 
+use crate::batch::Batch;
 use crate::race::{RaceError, Raced, race};
 use crate::spawner::Spawner;
-use crate::text::text_of;
+use crate::text::write_text;
 use crate::words::sizes_of;
 use std::alloc::Global;
 use std::marker::Brand;
 use std::sync::ledger::Blank;
-use wasi_base::{Sink, Source, write_all};
+use wasi_base::{Sink, Source};
 
 /// As many as a ledger may have.
 const PARTS: u64 = 9223372036854775807;
@@ -63,7 +64,7 @@ pub fn run_race<H: std::sync::Wait + Sync, P: Spawner, S: Source + Send + Drop, 
     }
 }
 
-// prints the whole text, or nothing where there is no memory for it
+// prints the whole text, or nothing where there is no memory for its writing
 fn print<S: Drop, K: Sink>(alloc: Global, raced: Raced<S>, out: &mut K) -> (u8, Option<S>)
     ensures statuses { (result.0 ≡ 0) ⊎ (result.0 ≡ 6) ⊎ (result.0 ≡ 7) }
     ensures shown { result.0 ≡ 0 → K.taken out.new ≡ with_more (K.taken out.old) (race_text (pieces_in raced.first raced.history.items) raced.last) }
@@ -78,8 +79,8 @@ fn print<S: Drop, K: Sink>(alloc: Global, raced: Raced<S>, out: &mut K) -> (u8, 
         last,
         source,
     } = raced;
-    match text_of(alloc, history.as_slice(), first, last) {
-        Ok(text) => match write_all(out, &text) {
+    match Batch::new(alloc) {
+        Ok(batch) => match write_text(batch, history.as_slice(), first, last, out) {
             Ok(()) => (0, Some(source)),
             Err(_) => (6, None),
         },

@@ -1,16 +1,19 @@
-ghost use Rattle.std.specs.Prelude.{◌≡◌, ◌++◌, OnOk, IfOk, OnErr};
-ghost use Rattle.hex.specs.Hex.{encode_lower};
+ghost use Rattle.std.specs.Prelude.{◌≡◌, ◌≤◌, [], length, OnOk, OnErr, Option, List, ℕ};
+ghost use Rattle.wasi_base.specs.Causes.{Rose};
+ghost use Rattle.wasi_base.specs.Sink.{with_more};
+ghost use Rattle.wasi_race.specs.declared.outcome.Last.TheVariants as last;
 ghost use Rattle.wasi_race.specs.History.{pieces_in, piece_of, piece_by, reader_of};
 ghost use Rattle.wasi_race.specs.Races.{race_text, piece_lines, last_line, reader_name};
 
+use crate::batch::Batch;
 use crate::outcome::{Last, Reader};
-use std::alloc::Global;
-use wasi_base::OutOfMemory;
+use wasi_base::{IoKind, Sink, WriteStop};
 use wasi_threads::{Entry, Event};
 
 impl Reader {
     fn name(self) -> &'static [u8]
-        ensures { result.now ≡ reader_name self }
+        ensures is { result.now ≡ reader_name self }
+        ensures short { length result.now ≤ 262144 }
     {
         match self {
             Reader::First => b"0",
@@ -29,71 +32,106 @@ fn reader_of(first: u64, pass: u64) -> Reader
     }
 }
 
-// lower-case digits, two for each byte
-fn push_digits(text: &mut Vec<u8>, bytes: &[u8]) -> Result<(), OutOfMemory>
-    ensures { OnOk result (text.new.items ≡ text.old.items ++ encode_lower bytes.now) }
-{
-    let before = text.len();
-    let digits = bytes.len().checked_mul(2).ok_or(OutOfMemory)?;
-    let after = before.checked_add(digits).ok_or(OutOfMemory)?;
-    text.resize(after, 0)?;
-    match hex::encode_to_slice(bytes, &mut text[before..]) {
-        Ok(()) => Ok(()),
-        Err(_) => unreachable!(),
-    }
-}
-
 // a line for a read that gave bytes
-fn push_piece(text: &mut Vec<u8>, reader: Reader, bytes: &[u8]) -> Result<(), OutOfMemory>
-    ensures { OnOk result (text.new.items ≡ text.old.items ++ piece_lines (piece_of reader bytes.now)) }
+#[tactic(auto, using(crate::proofs::TextFacts::more_twice, crate::proofs::TextFacts::more_none, crate::proofs::TextFacts::line_of))]
+fn put_piece<K: Sink>(
+    batch: &mut Batch,
+    reader: Reader,
+    bytes: &[u8],
+    out: &mut K,
+) -> Result<(), WriteStop>
+    ensures put { OnOk result (with_more (K.taken out.new) batch.new ≡ with_more (with_more (K.taken out.old) batch.old) (piece_lines (piece_of reader bytes.now))) }
+    ensures later { K.faults out.old ≤ K.faults out.new }
+    ensures failed { OnErr result (Rose (K.faults out.old) (K.faults out.new)) }
 {
     if bytes.is_empty() {
         return Ok(());
     }
-    text.extend_from_slice(reader.name())?;
-    text.push(b' ')?;
-    push_digits(text, bytes)?;
-    text.push(b'\n')?;
-    Ok(())
+    batch.put(reader.name(), out)?;
+    batch.put(b" ", out)?;
+    batch.put_digits(bytes, out)?;
+    batch.put(b"\n", out)
 }
 
-fn push_entry(text: &mut Vec<u8>, first: u64, entry: &Entry) -> Result<(), OutOfMemory>
-    ensures { OnOk result (text.new.items ≡ text.old.items ++ piece_lines (piece_by entry.now.event (reader_of first entry.now.pass) entry.now.bytes)) }
+#[tactic(auto, using(crate::proofs::TextFacts::more_none))]
+fn put_entry<K: Sink>(
+    batch: &mut Batch,
+    first: u64,
+    entry: &Entry,
+    out: &mut K,
+) -> Result<(), WriteStop>
+    ensures put { OnOk result (with_more (K.taken out.new) batch.new ≡ with_more (with_more (K.taken out.old) batch.old) (piece_lines (piece_by entry.now.event (reader_of first entry.now.pass) entry.now.bytes))) }
+    ensures later { K.faults out.old ≤ K.faults out.new }
+    ensures failed { OnErr result (Rose (K.faults out.old) (K.faults out.new)) }
 {
     match entry.event {
-        Event::Read(_) => push_piece(text, reader_of(first, entry.pass), entry.bytes.as_slice()),
+        Event::Read(_) => {
+            put_piece(
+                batch,
+                reader_of(first, entry.pass),
+                entry.bytes.as_slice(),
+                out,
+            )
+        }
         _ => Ok(()),
     }
 }
 
-fn push_last(text: &mut Vec<u8>, last: Last) -> Result<(), OutOfMemory>
-    ensures { OnOk result (text.new.items ≡ text.old.items ++ last_line last) }
+#[tactic(auto, using(crate::proofs::TextFacts::more_twice, crate::proofs::TextFacts::name_short))]
+fn put_fault<K: Sink>(batch: &mut Batch, kind: IoKind, out: &mut K) -> Result<(), WriteStop>
+    ensures put { OnOk result (with_more (K.taken out.new) batch.new ≡ with_more (with_more (K.taken out.old) batch.old) (last_line (last.Fault kind))) }
+    ensures later { K.faults out.old ≤ K.faults out.new }
+    ensures failed { OnErr result (Rose (K.faults out.old) (K.faults out.new)) }
+{
+    batch.put(b"fault ", out)?;
+    batch.put(kind.name().as_bytes(), out)?;
+    batch.put(b"\n", out)
+}
+
+fn put_last<K: Sink>(batch: &mut Batch, last: Last, out: &mut K) -> Result<(), WriteStop>
+    ensures put { OnOk result (with_more (K.taken out.new) batch.new ≡ with_more (with_more (K.taken out.old) batch.old) (last_line last)) }
+    ensures later { K.faults out.old ≤ K.faults out.new }
+    ensures failed { OnErr result (Rose (K.faults out.old) (K.faults out.new)) }
 {
     match last {
-        Last::End => text.extend_from_slice(b"end\n")?,
-        Last::Fault(kind) => {
-            text.extend_from_slice(b"fault ")?;
-            text.extend_from_slice(kind.name().as_bytes())?;
-            text.push(b'\n')?;
-        }
+        Last::End => batch.put(b"end\n", out),
+        Last::Fault(kind) => put_fault(batch, kind, out),
+    }
+}
+
+#[tactic(auto, using(crate::proofs::TextFacts::more_none, crate::proofs::TextFacts::lines_append, crate::proofs::TextFacts::more_twice))]
+fn put_all<K: Sink>(
+    batch: &mut Batch,
+    history: &[Entry],
+    first: u64,
+    out: &mut K,
+) -> Result<(), WriteStop>
+    ensures put { OnOk result (with_more (K.taken out.new) batch.new ≡ with_more (with_more (K.taken out.old) batch.old) (piece_lines (pieces_in first history.now))) }
+    ensures later { K.faults out.old ≤ K.faults out.new }
+    ensures failed { OnErr result (Rose (K.faults out.old) (K.faults out.new)) }
+{
+    for i in 0..history.len() {
+        put_entry(batch, first, &history[i], out)?;
     }
     Ok(())
 }
 
-/// What a race prints. `first` is the number of the first reader's pass.
-#[tactic(auto, using(crate::proofs::TextFacts::lines_append))]
-pub(crate) fn text_of(
-    alloc: Global,
+/// Writes what a race prints. `first` is the number of the first reader's pass. It takes no
+/// memory.
+#[tactic(auto, using(crate::proofs::TextFacts::more_twice, crate::proofs::TextFacts::more_none))]
+pub(crate) fn write_text<K: Sink>(
+    mut batch: Batch,
     history: &[Entry],
     first: u64,
     last: Last,
-) -> Result<Vec<u8>, OutOfMemory>
-    ensures { IfOk result (λ text. text.items ≡ race_text (pieces_in first history.now) last) }
+    out: &mut K,
+) -> Result<(), WriteStop>
+    requires { batch ≡ [] }
+    ensures taken { OnOk result (K.taken out.new ≡ with_more (K.taken out.old) (race_text (pieces_in first history.now) last)) }
+    ensures later { K.faults out.old ≤ K.faults out.new }
+    ensures failed { OnErr result (Rose (K.faults out.old) (K.faults out.new)) }
 {
-    let mut text = Vec::new(alloc);
-    for i in 0..history.len() {
-        push_entry(&mut text, first, &history[i])?;
-    }
-    push_last(&mut text, last)?;
-    Ok(text)
+    put_all(&mut batch, history, first, out)?;
+    put_last(&mut batch, last, out)?;
+    batch.send(out)
 }

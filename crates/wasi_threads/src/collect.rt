@@ -198,6 +198,15 @@ pub struct Collected<S: Drop> {
     pub source: S,
 }
 
+/// The same without the pieces, which the history has too.
+#[derive(Drop)]
+pub struct Gathered<S: Drop> {
+    pub history: Vec<Entry>,
+    /// The bytes that nobody asked for yet.
+    pub held: Piece,
+    pub source: S,
+}
+
 /// Puts the passes beside the history.
 pub fn settle<L: Ledger>(
     history: Vec<Entry>,
@@ -283,37 +292,15 @@ fn held_bytes(alloc: Global, mut core: StdinCore) -> Result<Piece, OutOfMemory>
     Ok(Piece::new(held))
 }
 
-// what the parts come to
-fn gathered<S: Drop>(
-    alloc: Global,
-    history: Vec<Entry>,
-    core: StdinCore,
-    source: S,
-) -> Result<Collected<S>, OutOfMemory>
-    ensures history { IfOk result (λ c. c.history.items ≡ history.items) }
-    ensures pieces { IfOk result (λ c. c.pieces ≡ handed_out history.items) }
-    ensures held { IfOk result (λ c. c.held ≡ core.held) }
-    ensures source { IfOk result (λ c. c.source ≡ source) }
-{
-    let pieces = pieces_of(alloc, history.as_slice())?;
-    let held = held_bytes(alloc, core)?;
-    Ok(Collected {
-        history,
-        pieces,
-        held,
-        source,
-    })
-}
-
 impl<L: Ledger> SharedStdin<L> {
     /// Puts the passes beside the history, after all threads' calls. Each pass has to have its
     /// part of the history, and together they have to have all of it.
-    pub fn collect<S: Source + Drop>(
+    pub fn gather<S: Source + Drop>(
         self,
         mut passes: Vec<Pass<L>>,
         worker: Worker<S, L>,
-    ) -> Result<Collected<S>, CollectError>
-        ensures whole { IfOk result (λ c. IsCollected worker.pass passes.items c.history.items c.pieces c.held) }
+    ) -> Result<Gathered<S>, CollectError>
+        ensures whole { IfOk result (λ c. IsCollected worker.pass passes.items c.history.items (handed_out c.history.items) c.held) }
         ensures source { IfOk result (λ c. c.source ≡ worker.source) }
         ensures refused { IfErr result (λ e. IsRefusal e (worker.pass ∷ passes.items)) }
     {
@@ -328,8 +315,38 @@ impl<L: Ledger> SharedStdin<L> {
             Ok(history) => history,
             Err(error) => return Err(error),
         };
-        match gathered(alloc, history, core, source) {
-            Ok(found) => Ok(found),
+        match held_bytes(alloc, core) {
+            Ok(held) => Ok(Gathered {
+                history,
+                held,
+                source,
+            }),
+            Err(_) => Err(CollectError::OutOfMemory),
+        }
+    }
+
+    /// What `gather` gives, and the pieces.
+    pub fn collect<S: Source + Drop>(
+        self,
+        passes: Vec<Pass<L>>,
+        worker: Worker<S, L>,
+    ) -> Result<Collected<S>, CollectError>
+        ensures whole { IfOk result (λ c. IsCollected worker.pass passes.items c.history.items c.pieces c.held) }
+        ensures source { IfOk result (λ c. c.source ≡ worker.source) }
+        ensures refused { IfErr result (λ e. IsRefusal e (worker.pass ∷ passes.items)) }
+    {
+        let alloc = self.alloc;
+        let found = match self.gather(passes, worker) {
+            Ok(found) => found,
+            Err(error) => return Err(error),
+        };
+        match pieces_of(alloc, found.history.as_slice()) {
+            Ok(pieces) => Ok(Collected {
+                history: found.history,
+                pieces,
+                held: found.held,
+                source: found.source,
+            }),
             Err(_) => Err(CollectError::OutOfMemory),
         }
     }

@@ -16,7 +16,7 @@ mod state;
 mod tests;
 mod worker;
 
-pub use collect::{CollectError, Collected, settle};
+pub use collect::{CollectError, Collected, Gathered, settle};
 pub use entry::{Entry, Event, Kept};
 pub use laws::deliveries_keep_the_input;
 pub use pass::Pass;

@@ -1,23 +1,8 @@
-use Rattle.std.proofs.Common.{◌≡◌, ◌∷◌, ◌∙◌, sym, ap}
-use Rattle.wasi_stdin.specs.Shared.{Shared}
-use Rattle.wasi_threads.specs.History.{Standing, opening, replayed}
-use Rattle.wasi_threads.specs.Collects.{IsWhole, handed_out}
-use Rattle.wasi_threads.proofs.BytesFacts.{collected_is}
-use Rattle.wasi_threads.proofs.PartFacts.{refusal_of}
+use Rattle.std.proofs.Common.{List, ℕ, ◌∙◌, sym, ap, subst}
+use Rattle.wasi_threads.specs.Collects.{IsCollected, handed_out}
 use Rattle.wasi_threads.proofs.shared.SharedStdin.collect.Goals as goal
 
-pub returns-in-Err-settle-clause-refused : goal.returns-in-Err-settle-clause-refused
-returns-in-Err-settle-clause-refused g c =
-    let ps : c.insert.new.self.items ≡ c.args.worker.pass ∷ c.args.passes.items = c.in-Ok.ensures.items in
-    rw (← ps) (refusal_of c.in-Err-settle.error c.insert.new.self.items _ c.in-Err-settle.ensures.err)
-
-pub returns-in-Ok-gathered-clause-whole : goal.returns-in-Ok-gathered-clause-whole
-returns-in-Ok-gathered-clause-whole g c =
-    let ps : c.insert.new.self.items ≡ c.args.worker.pass ∷ c.args.passes.items = c.in-Ok.ensures.items in
-    let same : c.in-Ok-settle.history.items ≡ c.into_inner.result.history = c.in-Ok-settle.ensures.ok.0 ∙ c.into_parts-history.ensures.history in
-    let here : c.in-Ok-gathered.found.history.items ≡ c.in-Ok-settle.history.items = c.in-Ok-gathered.ensures.history in
-    let whole : IsWhole (c.args.worker.pass ∷ c.args.passes.items) c.in-Ok-gathered.found.history.items = rw (here, c.in-Ok-settle.ensures.ok.0, ← ps) c.in-Ok-settle.ensures.ok.1 in
-    let out : c.in-Ok-gathered.found.pieces ≡ handed_out c.in-Ok-gathered.found.history.items = c.in-Ok-gathered.ensures.pieces ∙ ap handed_out (sym here) in
-    let ends : replayed opening c.in-Ok-gathered.found.history.items ≡ c.into_inner.result.now = ap (replayed opening) (here ∙ same) ∙ c.into_parts-history.ensures.ends in
-    let rest : c.in-Ok-gathered.found.held ≡ (replayed opening c.in-Ok-gathered.found.history.items).shared.held = c.in-Ok-gathered.ensures.held ∙ (ap (λ (s : Shared). s.held) c.into_parts-history.ensures.core ∙ sym (ap (λ (s : Standing). s.shared.held) ends)) in
-    collected_is c.args.worker.pass c.args.passes.items c.in-Ok-gathered.found.history.items c.in-Ok-gathered.found.pieces c.in-Ok-gathered.found.held c.args.worker.first whole out rest
+pub returns-in-Ok-pieces_of-clause-whole : goal.returns-in-Ok-pieces_of-clause-whole
+returns-in-Ok-pieces_of-clause-whole g c =
+    let found = c.in-Ok.found in
+    subst (λ (pieces : List ℕ). IsCollected c.args.worker.pass c.args.passes.items found.history.items pieces found.held) (sym (c.in-Ok-pieces_of.ensures ∙ ap handed_out c.as_slice.ensures.value)) c.in-Ok.ensures.whole
